@@ -1,0 +1,10 @@
+pub mod Bools
+pub mod Members
+pub mod Ranges
+pub mod Kept
+pub mod Distinct
+pub mod Taken
+pub mod Counting
+pub mod Joined
+pub mod Mapping
+pub mod Rising
