@@ -1,0 +1,4 @@
+-- The laws of sets of words.
+pub mod Digits
+pub mod BitSets
+pub mod Members

@@ -1,0 +1,2 @@
+-- What a set of words is.
+pub mod Bits
