@@ -1,0 +1,66 @@
+-- `layout::trailers::within_limits` meets its contract: the tests are the definition's, in its order.
+use Rattle.layout.specs.Layout.{withinLimits}
+use borrow.Author.Needs.{needs}
+use native.Mathlib.Omega.{arith}
+use Rattle.layout.proofs.Limits.{tests, product-high}
+use Rattle.layout.proofs.trailers.within_limits.Statement.{statement}
+use Rattle.layout.proofs.trailers.within_limits.Tie as tie
+
+returns : tie.Need-returns
+unfolding withinLimits
+returns c = search tests
+
+returns-2 : tie.Need-returns-2
+unfolding withinLimits
+returns-2 c = search tests
+
+returns-3 : tie.Need-returns-3
+unfolding withinLimits
+returns-3 c = search tests
+
+returns-4 : tie.Need-returns-4
+unfolding withinLimits
+returns-4 c = search tests
+
+add-if5 : tie.Need-add-if5
+add-if5 c = search needs
+
+returns-5 : tie.Need-returns-5
+unfolding withinLimits
+returns-5 c = search tests
+
+add-if6 : tie.Need-add-if6
+add-if6 c = search needs
+
+returns-6 : tie.Need-returns-6
+unfolding withinLimits
+returns-6 c = search tests
+
+returns-7 : tie.Need-returns-7
+unfolding withinLimits
+returns-7 c = search tests
+
+mul-result : tie.Need-mul-result
+mul-result c =
+    let g = c .before .before .before .before .before .before .before .args .g in
+    omega (arith, product-high (g .p) (g .m) (omega arith) (omega arith))
+
+returns-8 : tie.Need-returns-8
+unfolding withinLimits
+returns-8 c = search tests
+
+pub within-limits-spec : {M : Type 1} → statement M
+within-limits-spec =
+    tie.close
+    (tie.spec
+    returns
+    returns-2
+    returns-3
+    returns-4
+    add-if5
+    returns-5
+    add-if6
+    returns-6
+    returns-7
+    mul-result
+    returns-8)

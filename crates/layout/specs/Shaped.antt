@@ -1,0 +1,40 @@
+-- What is known of an image once its trailer has passed, as facts: what the functions on images ask of their callers.
+use Prim.Native.Nat.{ℕ, _+_, _*_, _≤_}
+use mathlib.Core.Path.{_≡_}
+use mathlib.Core.Bool.{true}
+use mathlib.Core.List.{List}
+use lib.ListN.{length}
+use Rattle.layout.specs.declared.Shape.{Shape}
+use Rattle.layout.specs.Layout.{trailerBytes, mapWords, shapeOf, known, fitting, imageBytes, wordsOf}
+
+-- "P units make a chunk, 2 to 16. C chunks, 1 to 256. M chunk maps, C+1 to C+32. N backing units, P to P·M."
+pub record Limits (g : Shape) : Type 0 where
+  pub p-low : 2 ≤ g .p
+  pub p-high : g .p ≤ 16
+  pub c-low : 1 ≤ g .c
+  pub c-high : g .c ≤ 256
+  pub m-low : g .c + 1 ≤ g .m
+  pub m-high : g .m ≤ g .c + 32
+  pub n-low : g .p ≤ g .n
+  pub n-high : g .n ≤ g .p * g .m
+
+-- the shape g that an image says is within the limits and agrees with its length
+pub record Shaped (s : List ℕ) (g : Shape) : Type 0 where
+  pub same : g ≡ shapeOf s
+  pub limits : Limits g
+  pub size : length s ≡ imageBytes g
+
+-- s is an image of shape g whose trailer passes: what every store of a word leaves so
+pub record On (g : Shape) (s : List ℕ) : Type 0 where
+  pub long : trailerBytes ≤ length s
+  pub shape : shapeOf s ≡ g
+  pub known : known s ≡ true
+  pub fitting : fitting s ≡ true
+
+-- how many words an image of a shape has
+abbrev pub wordCount : Shape → ℕ
+wordCount g = g .c + g .m * mapWords g
+
+-- the words of map k, the shape being what the image says
+abbrev pub mapOf : List ℕ → ℕ → List ℕ
+mapOf s k = wordsOf (shapeOf s) s k

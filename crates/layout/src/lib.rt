@@ -1,0 +1,71 @@
+// The layout of a volume image: its shape and limits, the trailer, format, and the refusals.
+pub mod format;
+pub mod refusals;
+pub mod trailers;
+
+// The bytes of a backing unit.
+pub const UNIT_BYTES: u64 = 4096;
+
+// Units in a chunk, chunks, and chunk maps beyond one for each chunk.
+pub const MIN_CHUNK_UNITS: u32 = 2;
+
+pub const MAX_CHUNK_UNITS: u32 = 16;
+
+pub const MIN_CHUNKS: u32 = 1;
+
+pub const MAX_CHUNKS: u32 = 256;
+
+pub const MIN_SPARE_MAPS: u32 = 1;
+
+pub const MAX_SPARE_MAPS: u32 = 32;
+
+// What the limits make of chunk maps and of backing units at the most.
+pub const MAX_MAPS: u32 = MAX_CHUNKS + MAX_SPARE_MAPS;
+
+pub const MAX_UNITS: u32 = MAX_CHUNK_UNITS * MAX_MAPS;
+
+// No map, no unit: document 01's X.
+pub const ABSENT: u64 = 18446744073709551615;
+
+// The trailer: its bytes, the four that it begins with, and its version.
+pub const TRAILER_BYTES: usize = 32;
+
+pub const TAG: [u8; 4] = *b"RMAP";
+
+pub const VERSION: u16 = 1;
+
+// Why a call refuses: the rows of document 01's table, with the place that each gives.
+pub enum Refusal {
+    Short,
+    Foreign,
+    Geometry,
+    BadLink(u32),
+    BadMap(u32),
+    Shared(u32, u32),
+    Range,
+    Size,
+    NoRoom(u32),
+    Small(u32),
+    BadPlan(u32),
+    BadAlarm,
+}
+
+// What format answers.
+pub enum Formatted {
+    Done,
+    Refused(Refusal),
+}
+
+// What an image's trailer answers: the shape that it says, or the first refusal of rows 1 to 3.
+pub enum Trailer {
+    Fits(Shape),
+    Fails(Refusal),
+}
+
+// The shape of a volume, document 01's P, C, M and N: units in a chunk, chunks, chunk maps, backing units.
+pub struct Shape {
+    pub p: u32,
+    pub c: u32,
+    pub m: u32,
+    pub n: u32,
+}
