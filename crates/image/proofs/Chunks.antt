@@ -1,0 +1,157 @@
+-- What a chunk's entry says, what the chunk holds, and how two chunks that do not clash lie apart.
+use Prim.Native.Nat.{ℕ, _+_, _≤_, _<_}
+use native.Mathlib.Omega.{arith}
+use mathlib.Core.Path.{_≡_, sym, ap, _∙_}
+use mathlib.Core.Logic.{⊎-elim}
+use mathlib.Core.Bool.{true, false, not, _&&_}
+use mathlib.Core.List.{List, []}
+use lib.ListN.{length, getD, drop, length-map}
+use lib.Dec.{eqb, ltb}
+use borrow.Author.Tests.{ltb-true, ltb-false, eqb-true, eqb-false, eq-eqb, ne-eqb, not-true, not-false}
+use Rattle.search.specs.Search.{below, all, member, disjoint}
+use Rattle.search.proofs.Bools.{contradict, and-intro, and-false-other, either, is-false, is-true, or-false-left, or-false-right}
+use Rattle.search.proofs.Members.{all-at, member-nil}
+use Rattle.search.proofs.Ranges.{length-from}
+use Rattle.search.proofs.Distinct.{disjoint-at, disjoint-intro}
+use Rattle.search.proofs.Mapping.{getD-map-from}
+use Rattle.layout.specs.declared.Shape.{Shape}
+use Rattle.layout.specs.Layout.{X, isUnit, unitWords, shapeOf, linkOf, wordsOf, mapWords, wordAt, mapWordPlace}
+use Rattle.layout.specs.Shaped.{mapOf}
+use Rattle.layout.proofs.Limits.{unit-below}
+use Rattle.image.specs.Soundness.{mapped, unitsOf, leading, Named}
+use Rattle.image.specs.Verdicts.{wellFormed, goodLink, goodMap, clash}
+use Rattle.image.specs.Claims.{Tested, heldIn}
+use Rattle.image.proofs.Leading.{length-leading, leading-all, form-none, form-some}
+
+-- ---- the words of a map
+
+pub length-wordsOf : (g : Shape) (s : List ℕ) (k : ℕ) → length (wordsOf g s k) ≡ mapWords g
+unfolding wordsOf
+length-wordsOf g s k = length-map (below (mapWords g)) _ ∙ length-from 0 (mapWords g)
+
+pub getD-wordsOf : (g : Shape) (s : List ℕ) (k j : ℕ) → j < mapWords g → getD (wordsOf g s k) j 0 ≡ wordAt s (mapWordPlace g k j)
+unfolding wordsOf
+getD-wordsOf g s k j h =
+    let e : 0 + j ≡ j = omega arith in
+    getD-map-from (λ a. wordAt s (mapWordPlace g k a)) 0 (mapWords g) j 0 h ∙ ap (λ (a : ℕ). wordAt s (mapWordPlace g k a)) e
+
+-- ---- chunk i names no map
+
+module _ (s : List ℕ) (i : ℕ) (e : linkOf s i ≡ X) where
+  pub not-mapped : mapped s i ≡ false
+  not-mapped = rw (eq-eqb (linkOf s i) X e)
+
+  pub absent-link : goodLink s i ≡ true
+  absent-link = rw (eq-eqb (linkOf s i) X e)
+
+  pub absent-map : goodMap s i ≡ true
+  absent-map = rw (eq-eqb (linkOf s i) X e)
+
+  pub units-absent : unitsOf s i ≡ []
+  unfolding unitsOf
+  units-absent = rw (eq-eqb (linkOf s i) X e)
+
+-- ---- chunk i names a map
+
+module _ (s : List ℕ) (i : ℕ) (e : Named s i) where
+  pub is-mapped : mapped s i ≡ true
+  is-mapped = rw (ne-eqb (linkOf s i) X e)
+
+  pub named-link : goodLink s i ≡ ltb (linkOf s i) (shapeOf s .m)
+  named-link = rw (ne-eqb (linkOf s i) X e)
+
+  pub named-map : goodMap s i ≡ wellFormed (isUnit (shapeOf s)) (unitWords (shapeOf s) (mapOf s (linkOf s i)))
+  named-map = rw (ne-eqb (linkOf s i) X e)
+
+  pub named-below : goodLink s i ≡ true → linkOf s i < shapeOf s .m
+  named-below h = ltb-true _ _ (sym named-link ∙ h)
+
+  pub units-named : unitsOf s i ≡ heldIn s (linkOf s i)
+  unfolding unitsOf
+  units-named = rw (ne-eqb (linkOf s i) X e)
+
+-- the test and the statement
+pub mapped-named : (s : List ℕ) (i : ℕ) → mapped s i ≡ true → Named s i
+mapped-named s i m = eqb-false (linkOf s i) X (not-true (eqb (linkOf s i) X) m)
+
+pub unmapped-absent : (s : List ℕ) (i : ℕ) → mapped s i ≡ false → linkOf s i ≡ X
+unmapped-absent s i e = eqb-true (linkOf s i) X (not-false (eqb (linkOf s i) X) e)
+
+-- where the code has the chunk's entry k and the count h of the units of that map
+module _ (s : List ℕ) (i k h : ℕ) (l : k ≡ linkOf s i) (x : k ≡ X → ⊥) (e : h ≡ length (heldIn s k)) where
+  pub bad-form : h ≡ 0 → goodMap s i ≡ false
+  bad-form z =
+      named-map s i (λ w. x (l ∙ w)) ∙ rw (← l) (form-none (isUnit (shapeOf s)) (unitWords (shapeOf s) (mapOf s k)) (sym e ∙ z))
+
+  pub good-form : (h ≡ 0 → ⊥) → goodMap s i ≡ all (eqb X) (drop h (unitWords (shapeOf s) (mapOf s k)))
+  good-form z =
+      named-map s i (λ w. x (l ∙ w))
+      ∙ rw (← l, e) (form-some (isUnit (shapeOf s)) (unitWords (shapeOf s) (mapOf s k)) (λ w. z (e ∙ w)))
+
+-- ---- what a chunk holds
+
+pub units-mapped : (s : List ℕ) (i : ℕ) → mapped s i ≡ true → unitsOf s i ≡ heldIn s (linkOf s i)
+units-mapped s i h = units-named s i (mapped-named s i h)
+
+pub units-unmapped : (s : List ℕ) (i : ℕ) → mapped s i ≡ false → unitsOf s i ≡ []
+units-unmapped s i h = units-absent s i (unmapped-absent s i h)
+
+-- a chunk with a unit is mapped
+pub mapped-of-unit : (s : List ℕ) (u i : ℕ) → member u (unitsOf s i) ≡ true → mapped s i ≡ true
+mapped-of-unit s u i m = is-true (mapped s i) (λ e. contradict m (ap (member u) (units-unmapped s i e) ∙ member-nil u))
+
+pub length-units : (s : List ℕ) (i : ℕ) → length (unitsOf s i) ≤ shapeOf s .p
+length-units s i = ⊎-elim
+    (λ h. let e = ap length (units-mapped s i h) in
+    let l = length-leading (isUnit (shapeOf s)) (mapOf s (linkOf s i)) in
+    let w = length-wordsOf (shapeOf s) s (linkOf s i) in
+    omega arith)
+    (λ h. let e = ap length (units-unmapped s i h) in omega arith)
+    (either (mapped s i))
+
+pub units-are-units : (s : List ℕ) (u i : ℕ) → member u (unitsOf s i) ≡ true → isUnit (shapeOf s) u ≡ true
+units-are-units s u i m =
+    let ws = unitWords (shapeOf s) (mapOf s (linkOf s i)) in
+    all-at (isUnit (shapeOf s)) (leading (isUnit (shapeOf s)) ws) (leading-all (isUnit (shapeOf s)) ws) u
+    (sym (ap (member u) (units-mapped s i (mapped-of-unit s u i m))) ∙ m)
+
+pub units-below : (s : List ℕ) (u i : ℕ) → member u (unitsOf s i) ≡ true → u < shapeOf s .n
+units-below s u i m = unit-below (shapeOf s) u (units-are-units s u i m)
+
+-- ---- two chunks that do not clash
+
+pub clash-links : (s : List ℕ) (i j : ℕ) → clash s i j ≡ false → mapped s i ≡ true → mapped s j ≡ true → linkOf s i ≡ linkOf s j → ⊥
+unfolding clash
+clash-links s i j e a b =
+    eqb-false (linkOf s i) (linkOf s j)
+    (or-false-left _ (not (disjoint (unitsOf s i) (unitsOf s j))) (and-false-other (mapped s i && mapped s j) _ e (and-intro (mapped s i) (mapped s j) a b)))
+
+clash-apart : (s : List ℕ) (i j : ℕ) → clash s i j ≡ false → mapped s i ≡ true → mapped s j ≡ true → disjoint (unitsOf s i) (unitsOf s j) ≡ true
+unfolding clash
+clash-apart s i j e a b =
+    not-false (disjoint (unitsOf s i) (unitsOf s j))
+    (or-false-right (eqb (linkOf s i) (linkOf s j)) _ (and-false-other (mapped s i && mapped s j) _ e (and-intro (mapped s i) (mapped s j) a b)))
+
+pub clash-units : (s : List ℕ) (i j : ℕ) → clash s i j ≡ false → disjoint (unitsOf s i) (unitsOf s j) ≡ true
+clash-units s i j e = disjoint-intro (unitsOf s i) (unitsOf s j) (λ u m. is-false (member u (unitsOf s j)) (λ k.
+    contradict k (disjoint-at (unitsOf s i) (unitsOf s j) (clash-apart s i j e (mapped-of-unit s u i m) (mapped-of-unit s u j k)) u m)))
+
+-- ---- of an image that passes
+
+module _ (s : List ℕ) (z : Tested s) where
+  -- two chunks of which neither clashes with the other are one
+  one-chunk : (i j : ℕ) → i < shapeOf s .c → j < shapeOf s .c → (clash s i j ≡ false → ⊥) → (clash s j i ≡ false → ⊥) → i ≡ j
+  one-chunk i j h l a b =
+      ⊎-elim (λ q. eqb-true i j q)
+      (λ q. absurd (⊎-elim (λ o. a (z .apart i j (ltb-true i j o) l)) (λ o. b (z .apart j i (omega (arith, ltb-false i j o, eqb-false i j q)) h)) (either (ltb i j))))
+      (either (eqb i j))
+
+  -- a unit has one owner
+  pub owner : (u i j : ℕ) → i < shapeOf s .c → j < shapeOf s .c → member u (unitsOf s i) ≡ true → member u (unitsOf s j) ≡ true → i ≡ j
+  owner u i j h l a b =
+      one-chunk i j h l (λ e. contradict b (disjoint-at (unitsOf s i) (unitsOf s j) (clash-units s i j e) u a))
+      (λ e. contradict a (disjoint-at (unitsOf s j) (unitsOf s i) (clash-units s j i e) u b))
+
+  -- and so has a map
+  pub map-owner : (i j : ℕ) → i < shapeOf s .c → j < shapeOf s .c → mapped s i ≡ true → mapped s j ≡ true → linkOf s i ≡ linkOf s j → i ≡ j
+  map-owner i j h l a b e = one-chunk i j h l (λ k. clash-links s i j k a b e) (λ k. clash-links s j i k b a (sym e))

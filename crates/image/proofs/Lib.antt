@@ -1,0 +1,16 @@
+pub mod Leading
+pub mod Chunks
+pub mod MapWords
+pub mod Claiming
+pub mod Verdicts
+pub mod SoundLaws
+pub mod Refusing
+pub mod Loads
+pub mod FreeSets
+pub mod Room
+pub mod Order
+pub mod Fate
+pub mod Wording
+pub mod Fresh
+pub mod Cases
+pub mod Theorems

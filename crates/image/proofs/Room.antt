@@ -1,0 +1,164 @@
+-- What is free, and how much of it there is.
+--     freeUnit-.., freeMap-..     the tests against what they say of every chunk
+--     some-map-free               a fitting image has a free map
+--     units-free                  with N at least (C+1)·P, at least P units are free
+--     free-and-held               in a sound image free and held units are N in all
+use Prim.Native.Nat.{ℕ, _+_, _*_, _≤_, _<_}
+use native.Mathlib.Omega.{arith}
+use mathlib.Core.Path.{_≡_, sym, ap, subst, _∙_}
+use mathlib.Core.Logic.{⊎-elim}
+use mathlib.Core.Bool.{true, false, not}
+use mathlib.Core.List.{List, [], _∷_}
+use lib.ListN.{length}
+use lib.Dec.{eqb, ltb}
+use borrow.Author.Tests.{ltb-true, lt-ltb, eqb-false, ne-eqb, not-true}
+use Rattle.search.specs.Search.{below, keep, member, distinct, joined}
+use Rattle.layout.specs.Layout.{shapeOf, linkOf, fitting}
+use Rattle.image.specs.Claims.{Tested}
+use Rattle.image.specs.Soundness.{unitsOf}
+use Rattle.image.specs.Free.{freeUnit, freeMap, freeUnits, freeMaps, heldUnits}
+use Rattle.search.proofs.Bools.{contradict, and-left, and-right, and-intro, not-of-false, is-false, same}
+use Rattle.search.proofs.Members.{member-nil, member-cons, member-head}
+use Rattle.search.proofs.Ranges.{member-below, below-member, any-below, any-below-intro, any-below-none, any-below-none-intro, length-from}
+use Rattle.search.proofs.Kept.{keep-ext, keep-member, member-keep}
+use Rattle.search.proofs.Distinct.{distinct-from, distinct-keep}
+use Rattle.search.proofs.Counting.{unlisted, unlisted-exactly}
+use Rattle.search.proofs.Joined.{distinct-joined, member-joined, length-joined}
+use Rattle.search.specs.Sets.{without}
+use Rattle.layout.proofs.Limits.{fitting-limits}
+use Rattle.image.proofs.Chunks.{length-units, units-below, clash-units}
+
+-- ---- the tests
+
+pub freeUnit-below : (s : List ℕ) (u : ℕ) → freeUnit s u ≡ true → u < shapeOf s .n
+unfolding freeUnit
+freeUnit-below s u e = ltb-true u (shapeOf s .n) (and-left (ltb u (shapeOf s .n)) _ e)
+
+pub freeUnit-unheld : (s : List ℕ) (u : ℕ) → freeUnit s u ≡ true → (i : ℕ) → i < shapeOf s .c → member u (unitsOf s i) ≡ false
+unfolding freeUnit
+freeUnit-unheld s u e =
+    any-below-none (λ i. member u (unitsOf s i)) (shapeOf s .c) (not-true _ (and-right (ltb u (shapeOf s .n)) _ e))
+
+pub freeUnit-intro : (s : List ℕ) (u : ℕ) → u < shapeOf s .n → ((i : ℕ) → i < shapeOf s .c → member u (unitsOf s i) ≡ false) → freeUnit s u ≡ true
+unfolding freeUnit
+freeUnit-intro s u h f =
+    and-intro (ltb u (shapeOf s .n)) _ (lt-ltb u (shapeOf s .n) h)
+    (not-of-false _ (any-below-none-intro (λ i. member u (unitsOf s i)) (shapeOf s .c) f))
+
+pub freeMap-below : (s : List ℕ) (k : ℕ) → freeMap s k ≡ true → k < shapeOf s .m
+unfolding freeMap
+freeMap-below s k e = ltb-true k (shapeOf s .m) (and-left (ltb k (shapeOf s .m)) _ e)
+
+pub freeMap-unnamed : (s : List ℕ) (k : ℕ) → freeMap s k ≡ true → (i : ℕ) → i < shapeOf s .c → linkOf s i ≡ k → ⊥
+unfolding freeMap
+freeMap-unnamed s k e i h =
+    eqb-false (linkOf s i) k
+    (any-below-none (λ j. eqb (linkOf s j) k) (shapeOf s .c) (not-true _ (and-right (ltb k (shapeOf s .m)) _ e)) i h)
+
+pub freeMap-intro : (s : List ℕ) (k : ℕ) → k < shapeOf s .m → ((i : ℕ) → i < shapeOf s .c → linkOf s i ≡ k → ⊥) → freeMap s k ≡ true
+unfolding freeMap
+freeMap-intro s k h f =
+    and-intro (ltb k (shapeOf s .m)) _ (lt-ltb k (shapeOf s .m) h)
+    (not-of-false _ (any-below-none-intro (λ i. eqb (linkOf s i) k) (shapeOf s .c) (λ i l. ne-eqb (linkOf s i) k (f i l))))
+
+-- ---- the lists
+
+pub member-freeUnits : (s : List ℕ) (u : ℕ) → member u (freeUnits s) ≡ freeUnit s u
+unfolding freeUnits
+member-freeUnits s u =
+    same (member u (freeUnits s)) (freeUnit s u) (λ m. member-keep (freeUnit s) u (below (shapeOf s .n)) m .1)
+    (λ e. keep-member (freeUnit s) u (below (shapeOf s .n)) (below-member u (shapeOf s .n) (freeUnit-below s u e)) e)
+
+pub member-freeMaps : (s : List ℕ) (k : ℕ) → member k (freeMaps s) ≡ freeMap s k
+unfolding freeMaps
+member-freeMaps s k =
+    same (member k (freeMaps s)) (freeMap s k) (λ m. member-keep (freeMap s) k (below (shapeOf s .m)) m .1)
+    (λ e. keep-member (freeMap s) k (below (shapeOf s .m)) (below-member k (shapeOf s .m) (freeMap-below s k e)) e)
+
+pub distinct-freeUnits : (s : List ℕ) → distinct (freeUnits s) ≡ true
+unfolding freeUnits
+distinct-freeUnits s = distinct-keep (freeUnit s) (below (shapeOf s .n)) (distinct-from 0 (shapeOf s .n))
+
+pub distinct-freeMaps : (s : List ℕ) → distinct (freeMaps s) ≡ true
+unfolding freeMaps
+distinct-freeMaps s = distinct-keep (freeMap s) (below (shapeOf s .m)) (distinct-from 0 (shapeOf s .m))
+
+-- ---- how many
+
+pub free-maps-count : (s : List ℕ) → shapeOf s .m ≤ length (freeMaps s) + shapeOf s .c
+unfolding freeMaps without
+free-maps-count s =
+    let m = shapeOf s .m in
+    let names = joined (λ i. linkOf s i ∷ []) (below (shapeOf s .c)) in
+    let a = unlisted m names in
+    let b : length names ≤ length (below (shapeOf s .c)) * 1 = length-joined (λ i. linkOf s i ∷ []) 1 (below (shapeOf s .c)) (λ i. omega arith) in
+    let c = length-from 0 (shapeOf s .c) in
+    let e = ap length (keep-ext (without (λ u. true) names) (freeMap s) (below m) (λ k h. step k (member-below k m h))) in
+    omega arith
+  where
+    one : (k i : ℕ) → member k (linkOf s i ∷ []) ≡ true → linkOf s i ≡ k
+    one k i e = ⊎-elim (λ q. sym q) (λ q. contradict q (member-nil k)) (member-cons k (linkOf s i) [] e)
+
+    step : (k : ℕ) → k < shapeOf s .m → without (λ u. true) (joined (λ i. linkOf s i ∷ []) (below (shapeOf s .c))) k ≡ freeMap s k
+    step k h =
+        same _ (freeMap s k)
+        (λ e. freeMap-intro s k h (λ i l q. contradict
+        (any-below-intro (λ j. member k (linkOf s j ∷ [])) (shapeOf s .c) i l (member-head k (linkOf s i) [] (sym q)))
+        (sym (member-joined (λ j. linkOf s j ∷ []) k (below (shapeOf s .c))) ∙ not-true _ e)))
+        (λ e. not-of-false _ (member-joined (λ j. linkOf s j ∷ []) k (below (shapeOf s .c))
+        ∙ any-below-none-intro (λ j. member k (linkOf s j ∷ [])) (shapeOf s .c) (λ i l.
+        is-false _ (λ q. freeMap-unnamed s k e i l (one k i q)))))
+
+-- a fitting image has a free map
+pub some-map-free : (s : List ℕ) → fitting s ≡ true → 1 ≤ length (freeMaps s)
+some-map-free s e = let a = free-maps-count s in let l = fitting-limits s e in omega (arith, l .m-low)
+
+unheld-free : (s : List ℕ) (u : ℕ) → u < shapeOf s .n → without (λ v. true) (heldUnits s) u ≡ freeUnit s u
+unfolding heldUnits without
+unheld-free s u h =
+    same _ (freeUnit s u)
+    (λ e. freeUnit-intro s u h (any-below-none (λ i. member u (unitsOf s i)) (shapeOf s .c)
+    (sym (member-joined (unitsOf s) u (below (shapeOf s .c))) ∙ not-true _ e)))
+    (λ e. not-of-false _ (member-joined (unitsOf s) u (below (shapeOf s .c))
+    ∙ any-below-none-intro (λ i. member u (unitsOf s i)) (shapeOf s .c) (freeUnit-unheld s u e)))
+
+pub free-or-held : (s : List ℕ) (u : ℕ) → u < shapeOf s .n → freeUnit s u ≡ not (member u (heldUnits s))
+unfolding without
+free-or-held s u h = sym (unheld-free s u h)
+
+keep-unheld : (s : List ℕ) → keep (without (λ v. true) (heldUnits s)) (below (shapeOf s .n)) ≡ freeUnits s
+unfolding freeUnits
+keep-unheld s = keep-ext (without (λ v. true) (heldUnits s)) (freeUnit s) (below (shapeOf s .n)) (λ u m.
+    unheld-free s u (member-below u (shapeOf s .n) m))
+
+pub free-units-count : (s : List ℕ) → shapeOf s .n ≤ length (freeUnits s) + length (heldUnits s)
+free-units-count s = let a = unlisted (shapeOf s .n) (heldUnits s) in let e = ap length (keep-unheld s) in omega arith
+
+pub held-high : (s : List ℕ) → length (heldUnits s) ≤ shapeOf s .c * shapeOf s .p
+unfolding heldUnits
+held-high s =
+    let a = length-joined (unitsOf s) (shapeOf s .p) (below (shapeOf s .c)) (length-units s) in
+    subst (λ (k : ℕ). length (joined (unitsOf s) (below (shapeOf s .c))) ≤ k * shapeOf s .p) (length-from 0 (shapeOf s .c)) a
+
+-- with N at least (C+1)·P, refusal 9 cannot occur for one write: at least P units are free
+pub units-free : (s : List ℕ) → (shapeOf s .c + 1) * shapeOf s .p ≤ shapeOf s .n → shapeOf s .p ≤ length (freeUnits s)
+units-free s h = let a = free-units-count s in let b = held-high s in omega arith
+
+-- ---- a sound image: just so many
+
+pub distinct-held : (s : List ℕ) → Tested s → distinct (heldUnits s) ≡ true
+unfolding heldUnits
+distinct-held s z =
+    distinct-joined (unitsOf s) 0 (shapeOf s .c) (λ j h. z .single j (omega arith)) (λ j k h l. clash-units s j k (z .apart j k h (omega arith)))
+
+pub held-below : (s : List ℕ) (u : ℕ) → member u (heldUnits s) ≡ true → u < shapeOf s .n
+unfolding heldUnits
+held-below s u m =
+    let r = any-below (λ i. member u (unitsOf s i)) (shapeOf s .c) (sym (member-joined (unitsOf s) u (below (shapeOf s .c))) ∙ m) in
+    units-below s u (r .0) (r .2)
+
+pub free-and-held : (s : List ℕ) → Tested s → length (freeUnits s) + length (heldUnits s) ≡ shapeOf s .n
+free-and-held s z =
+    let a = unlisted-exactly (shapeOf s .n) (heldUnits s) (distinct-held s z) (held-below s) in
+    let e = ap length (keep-unheld s) in
+    omega arith

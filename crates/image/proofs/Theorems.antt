@@ -1,0 +1,113 @@
+-- The theorems of this crate that a reader wants: nothing else cites them. `Bytes s` says that each element of s is below 256, as every lent
+-- image's is.
+use Prim.Native.Nat.{ℕ, _+_, _*_, _≤_, _<_}
+use mathlib.Core.Path.{_≡_, refl, ap, _∙_}
+use mathlib.Core.Logic.{_⊎_, inl, inr}
+use mathlib.Core.Bool.{true, not}
+use mathlib.Core.List.{List}
+use lib.ListN.{length}
+use lib.Dec.{ltb}
+use Rattle.words.proofs.Numbers.{Bytes}
+use Rattle.search.specs.Search.{member, distinct}
+use Rattle.bitset.specs.Bits.{bitSet}
+use Rattle.bitset.proofs.BitSets.{bitSet-ext}
+use Rattle.layout.specs.declared.Shape.{Shape}
+use Rattle.layout.specs.declared.Refusal.{Refusal}
+use Rattle.layout.specs.declared.Formatted.the-variants.{Done}
+use Rattle.layout.specs.Layout.{isUnit, shapeOf, fresh}
+use Rattle.layout.specs.Format.{formatAnswer, formatImage}
+use Rattle.layout.proofs.Limits.{limits}
+use Rattle.layout.proofs.Formatting.{formatted}
+use Rattle.image.specs.declared.Verdict.{Verdict}
+use Rattle.image.specs.declared.Verdict.the-variants.{Refused, Passed}
+use Rattle.image.specs.Soundness.{Sound}
+use Rattle.image.specs.Verdicts.{verdict}
+use Rattle.image.specs.Rows.{Row}
+use Rattle.image.specs.Free.{freeUnit, freeMap, freeUnits, freeMaps, heldUnits}
+use Rattle.image.specs.Loading.{unitSetWords, mapSetWords, answer, loaded}
+use Rattle.image.proofs.SoundLaws.{verdict-sound, sound-verdict}
+use Rattle.image.proofs.Wording.{tested-sound, sound-tested, sound-shape}
+use Rattle.image.proofs.Refusing.{refused-row, row-refused}
+use Rattle.image.proofs.Room.{free-or-held, held-below, distinct-held, free-and-held, some-map-free, units-free}
+use Rattle.image.proofs.Fresh.{sound-fresh, freeUnit-fresh, freeMap-fresh}
+
+-- ---- "every sound image loaded, every other refused"
+
+-- The verdict passes an image exactly where it is sound.
+pub passed-is-sound : (s : List ℕ) → Bytes s → verdict s ≡ Passed → Sound (shapeOf s) s
+passed-is-sound s b e = tested-sound s (verdict-sound s e) b
+
+pub sound-is-passed : (g : Shape) (s : List ℕ) → Sound g s → (verdict s ≡ Passed) × (shapeOf s ≡ g)
+sound-is-passed g s z = (sound-verdict s (sound-tested g s z), sound-shape g s z)
+
+-- It refuses exactly with the row that holds: "Each is given when its row holds and not otherwise", "Lowest number wins".
+pub refused-is-row : (s : List ℕ) (r : Refusal) → verdict s ≡ Refused r → Row s r
+refused-is-row = refused-row
+
+pub row-is-refused : (s : List ℕ) (r : Refusal) → Row s r → verdict s ≡ Refused r
+row-is-refused = row-refused
+
+-- Any bytes are a sound image, which loads with its shape and its free sets, or are refused with their row.
+pub sound-loads : (g : Shape) (s : List ℕ) → Sound g s
+    → loaded s ≡ record { verdict = Passed; shape = g; units = bitSet (freeUnit s) unitSetWords; maps = bitSet (freeMap s) mapSetWords }
+sound-loads g s z =
+    let e = sound-is-passed g s z in
+    ap (λ (v : Verdict). answer v s) (e .0)
+    ∙ ap
+    (λ (h : Shape). record { verdict = Passed; shape = h; units = bitSet (freeUnit s) unitSetWords; maps = bitSet (freeMap s) mapSetWords })
+    (e .1)
+
+pub sound-or-refused : (s : List ℕ) → Bytes s → Sound (shapeOf s) s ⊎ ((r : Refusal) × (verdict s ≡ Refused r) × Row s r)
+sound-or-refused s b = by-verdict (verdict s) refl
+  where
+    by-verdict : (v : Verdict) → verdict s ≡ v → Sound (shapeOf s) s ⊎ ((r : Refusal) × (verdict s ≡ Refused r) × Row s r)
+    by-verdict Passed e = inl (passed-is-sound s b e)
+    by-verdict (Refused r) e = inr (r, e, refused-row s r e)
+
+-- ---- "Held units are those in named maps; all others are free."
+
+-- Of the units each is free or held and not both; what is held is a unit, and in a sound image held once, so that both together are N.
+pub units-part : (s : List ℕ) (u : ℕ) → u < shapeOf s .n → freeUnit s u ≡ not (member u (heldUnits s))
+units-part = free-or-held
+
+pub held-are-units : (s : List ℕ) (u : ℕ) → member u (heldUnits s) ≡ true → u < shapeOf s .n
+held-are-units = held-below
+
+pub held-once : (g : Shape) (s : List ℕ) → Sound g s → distinct (heldUnits s) ≡ true
+held-once g s z = distinct-held s (sound-tested g s z)
+
+pub units-counted : (g : Shape) (s : List ℕ) → Sound g s → length (freeUnits s) + length (heldUnits s) ≡ g .n
+units-counted g s z = free-and-held s (sound-tested g s z) ∙ ap (λ (h : Shape). h .n) (sound-shape g s z)
+
+-- ---- room
+
+-- A sound image has a free map.
+pub map-is-free : (g : Shape) (s : List ℕ) → Sound g s → 1 ≤ length (freeMaps s)
+map-is-free g s z = some-map-free s (sound-tested g s z .fitting)
+
+-- "With N at least (C+1)·P it never does for one write": P units are free.
+pub room-for-a-write : (g : Shape) (s : List ℕ) → Sound g s → (g .c + 1) * g .p ≤ g .n → g .p ≤ length (freeUnits s)
+room-for-a-write g s z h =
+    let e = sound-shape g s z in
+    rw (← (ap (λ (q : Shape). q .p) e)) (units-free s (rw (e) h))
+
+-- ---- "what is written loads back as what was meant": format
+
+-- What format writes is sound, loads back as the four numbers, and has every unit and every map free.
+pub format-is-sound : (g : Shape) (s : List ℕ) → formatAnswer g s ≡ Done → Sound g (formatImage g s)
+format-is-sound g s d = let f = formatted g s d in rw (f .1) (sound-fresh g (limits g (f .0)))
+
+pub format-loads : (g : Shape) (s : List ℕ) → formatAnswer g s ≡ Done
+    → loaded (formatImage g s)
+    ≡ record { verdict = Passed; shape = g; units = bitSet (isUnit g) unitSetWords; maps = bitSet (λ k. ltb k (g .m)) mapSetWords }
+format-loads g s d =
+    let f = formatted g s d in
+    let l = limits g (f .0) in
+    rw (f .1)
+    (sound-loads g (fresh g) (sound-fresh g l)
+    ∙ (λ t. record {
+      verdict = Passed;
+      shape = g;
+      units = bitSet-ext (freeUnit (fresh g)) (isUnit g) unitSetWords (λ u h. freeUnit-fresh g l u) t;
+      maps = bitSet-ext (freeMap (fresh g)) (λ k. ltb k (g .m)) mapSetWords (λ k h. freeMap-fresh g l k) t;
+    }))

@@ -1,0 +1,68 @@
+-- The verdict on any bytes: rows 1 to 6 of the table of refusals, "lowest number wins", computed.
+use Prim.Native.Nat.{ℕ}
+use mathlib.Core.Bool.{Bool, not, _&&_, _||_, cond}
+use mathlib.Core.List.{List}
+use lib.ListN.{length, drop}
+use lib.Dec.{eqb, ltb, leb}
+use Rattle.search.specs.Search.{below, all, any, distinct, disjoint, lowest}
+use Rattle.layout.specs.declared.Refusal.the-variants.{Short, Foreign, Geometry, BadLink, BadMap, Shared}
+use Rattle.layout.specs.Layout.{X, isUnit, unitWords, trailerBytes, shapeOf, known, fitting, linkOf, wordsOf}
+use Rattle.image.specs.declared.Verdict.{Verdict}
+use Rattle.image.specs.declared.Verdict.the-variants.{Refused, Passed}
+use Rattle.image.specs.Soundness.{leading, mapped, unitsOf}
+
+-- ---- row 4: "entry neither X nor below M", "lowest such chunk"
+
+abbrev pub goodLink : List ℕ → ℕ → Bool
+goodLink s i = not (mapped s i) || ltb (linkOf s i) (shapeOf s .m)
+
+-- the lowest chunk with a bad entry, or C where there is none; so below
+unfoldable pub badLink : List ℕ → ℕ
+badLink s = lowest (λ i. not (goodLink s i)) (shapeOf s .c)
+
+-- ---- row 5: "a named map of the wrong form", "lowest such chunk"
+
+-- "1 to P units below N, then only X": some word passes the test, and only X from the first that fails it
+unfoldable pub wellFormed : (ℕ → Bool) → List ℕ → Bool
+wellFormed f ws = let k = length (leading f ws) in leb 1 k && all (eqb X) (drop k ws)
+
+abbrev pub goodMap : List ℕ → ℕ → Bool
+goodMap s i = let g = shapeOf s in not (mapped s i) || wellFormed (isUnit g) (unitWords g (wordsOf g s (linkOf s i)))
+
+unfoldable pub badMap : List ℕ → ℕ
+badMap s = lowest (λ i. not (goodMap s i)) (shapeOf s .c)
+
+-- ---- row 6: "a map or unit claimed twice", "two chunks"
+
+-- chunks i and j name the same map or a common unit
+unfoldable pub clash : List ℕ → ℕ → ℕ → Bool
+clash s i j = mapped s i && mapped s j && (eqb (linkOf s i) (linkOf s j) || not (disjoint (unitsOf s i) (unitsOf s j)))
+
+-- chunk j "claims a map or unit of a lower chunk, or one unit twice"
+unfoldable pub contested : List ℕ → ℕ → Bool
+contested s j = any (λ i. clash s i j) (below j) || not (distinct (unitsOf s j))
+
+-- "the second chunk is the lowest that claims a map or unit of a lower chunk, or one unit twice"
+unfoldable pub doubleClaim : List ℕ → ℕ
+doubleClaim s = lowest (contested s) (shapeOf s .c)
+
+-- "The first chunk is the lowest one it clashes with, or itself if none is lower."
+unfoldable pub firstClaim : List ℕ → ℕ → ℕ
+firstClaim s j = lowest (λ i. clash s i j) j
+
+-- ---- the verdict
+
+-- rows 4 to 6, of an image whose trailer passes: each row is asked of all chunks before the next
+unfoldable pub chunkVerdict : List ℕ → Verdict
+chunkVerdict s =
+    let c = shapeOf s .c in
+    let j = doubleClaim s in
+    let sharing = cond (ltb j c) (Refused (Shared (firstClaim s j) j)) Passed in
+    let maps = cond (ltb (badMap s) c) (Refused (BadMap (badMap s))) sharing in
+    cond (ltb (badLink s) c) (Refused (BadLink (badLink s))) maps
+
+-- rows 1 to 6: 1 "image under 32 bytes", 2 "first four trailer bytes or version wrong", 3 "a limit broken, or a distance or length that disagrees"
+unfoldable pub verdict : List ℕ → Verdict
+verdict s =
+    cond (ltb (length s) trailerBytes) (Refused Short)
+    (cond (not (known s)) (Refused Foreign) (cond (not (fitting s)) (Refused Geometry) (chunkVerdict s)))
