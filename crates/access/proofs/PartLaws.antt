@@ -1,0 +1,80 @@
+-- Laws of a chunk's held words: where they stand, and which answer each finding of the code gives.
+use Prim.Native.Nat.{ℕ, _+_, _*_, _<_, _≤_}
+use mathlib.Core.Path.{_≡_, ap, _∙_}
+use mathlib.Core.Bool.{true, false}
+use mathlib.Core.List.{List}
+use native.Mathlib.Omega.{arith}
+use native.Mathlib.Nat.{add-zero}
+use lib.ListN.{length}
+use borrow.Author.Tests.{lt-ltb, le-ltb}
+use Rattle.layout.specs.declared.Shape.{Shape}
+use Rattle.layout.specs.declared.Refusal.{Refusal}
+use Rattle.layout.specs.declared.Refusal.the-variants.{Range}
+use Rattle.layout.specs.Layout.{X, isUnit, unitWords, shapeOf, linkOf}
+use Rattle.layout.specs.Shaped.{Shaped, mapOf}
+use Rattle.image.specs.declared.Verdict.the-variants.{Refused}
+use Rattle.image.specs.declared.Loaded.{Loaded}
+use Rattle.image.specs.Soundness.{mapped}
+use Rattle.image.specs.Verdicts.{goodLink, verdict}
+use Rattle.image.specs.Claims.{heldIn}
+use Rattle.image.proofs.Leading.{length-leading}
+use Rattle.image.proofs.Chunks.{is-mapped, named-below, units-named}
+use Rattle.image.proofs.MapWords.{in-maps, length-mapOf}
+use Rattle.image.proofs.Loads.{Known}
+use Rattle.access.specs.declared.Extent.{Extent}
+use Rattle.access.specs.declared.Status.the-variants.{Answered, Refused as Denied}
+use Rattle.access.specs.Parts.{heldStatus, nowhere, heldWords, heldExtent}
+
+-- ---- chunk i
+
+pub words-absent : (s : List ℕ) (i : ℕ) → mapped s i ≡ false → nowhere ≡ heldWords s i
+unfolding heldWords
+words-absent s i m = rw m
+
+-- the first k words of map w stand within the image, which is short
+abbrev pub Within : List ℕ → Shape → ℕ → ℕ → Type 0
+Within s g w k = (8 * (g .c + w * g .p) + 8 * k ≤ length s) × (length s ≤ 38944)
+
+-- its entry is w, and names a map
+module _ (s : List ℕ) (g : Shape) (i w : ℕ) (h : Shaped s g) (ew : w ≡ linkOf s i) (hw : w ≡ X → ⊥) (good : goodLink s i ≡ true) where
+  pub map-named : w < g .m
+  map-named =
+      let m = ap (λ (g : Shape). g .m) (h .same) in
+      omega (arith, named-below s i (λ e. hw (ew ∙ e)) good)
+
+  -- its map holds k units
+  module _ (k : ℕ) (ek : k ≡ length (heldIn s w)) where
+    pub words-within : Within s g w k
+    words-within =
+        let b = in-maps s g w h map-named in
+        let a = length-leading (isUnit (shapeOf s)) (unitWords (shapeOf s) (mapOf s w)) in
+        let n = length-mapOf s g w h in
+        (omega (arith, h .size), omega (arith, h .size))
+
+    pub words-named : _≡_ {A = Extent} (record { start = 8 * (g .c + w * g .p); end = 8 * (g .c + w * g .p) + 8 * k }) (heldWords s i)
+    unfolding heldWords
+    words-named = rw (is-mapped s i (λ e. hw (ew ∙ e)), units-named s i (λ e. hw (ew ∙ e)), add-zero, ek, ew, h .same)
+
+-- ---- the answers on chunk i of an image that load has refused, and of one that it has passed
+
+pub extent-refused : (s : List ℕ) (i : ℕ) (r : Refusal) → verdict s ≡ Refused r → nowhere ≡ heldExtent s i
+extent-refused s i r e = rw e
+
+module _ (s : List ℕ) (l : Loaded) (k : Known s l) (i : ℕ) where
+  chunks : l .shape .c ≡ shapeOf s .c
+  chunks = ap (λ (g : Shape). g .c) (k .shape)
+
+  pub known-link : i < l .shape .c → goodLink s i ≡ true
+  known-link b = k .sound .links i (omega (arith, chunks))
+
+  pub status-in : i < l .shape .c → Answered ≡ heldStatus s i
+  status-in b = rw (k .passed, lt-ltb i (shapeOf s .c) (omega (arith, chunks)))
+
+  pub status-out : l .shape .c ≤ i → Denied Range ≡ heldStatus s i
+  status-out b = rw (k .passed, le-ltb i (shapeOf s .c) (omega (arith, chunks)))
+
+  pub extent-in : i < l .shape .c → heldWords s i ≡ heldExtent s i
+  extent-in b = rw (k .passed, lt-ltb i (shapeOf s .c) (omega (arith, chunks)))
+
+  pub extent-out : l .shape .c ≤ i → nowhere ≡ heldExtent s i
+  extent-out b = rw (k .passed, le-ltb i (shapeOf s .c) (omega (arith, chunks)))

@@ -1,0 +1,4 @@
+pub mod Ranges
+pub mod Parts
+pub mod Tiling
+pub mod Holding

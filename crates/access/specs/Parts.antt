@@ -1,0 +1,47 @@
+-- The held words of a chunk's map, as a part of the image, and the companion call's answer.
+use Prim.Native.Nat.{ℕ, _+_, _-_, _*_}
+use mathlib.Core.Bool.{cond}
+use mathlib.Core.List.{List}
+use lib.ListN.{length, take, drop}
+use lib.Dec.{ltb}
+use Rattle.layout.specs.declared.Refusal.{Refusal}
+use Rattle.layout.specs.declared.Refusal.the-variants.{Range}
+use Rattle.layout.specs.Layout.{shapeOf, linkOf, mapWordPlace}
+use Rattle.image.specs.Soundness.{mapped, unitsOf}
+use Rattle.image.specs.Verdicts.{verdict}
+use Rattle.image.specs.Answers.{ifSound}
+use Rattle.access.specs.declared.Extent.{Extent}
+use Rattle.access.specs.declared.Status.{Status}
+use Rattle.access.specs.declared.Status.the-variants.{Answered, Refused as Denied}
+
+-- "a companion call on the same inputs gives number and place": 7 is "chunk not below C". An unmapped chunk is no refusal.
+abbrev pub heldStatus : List ℕ → ℕ → Status
+heldStatus s i = ifSound (verdict s) Denied (cond (ltb i (shapeOf s .c)) Answered (Denied Range))
+
+-- an empty part
+abbrev pub nowhere : Extent
+nowhere = record { start = 0; end = 0 }
+
+-- "The held words of a chunk's map": where its k unit words stand, 8·k bytes from word 0 of the map on. They are not the whole map: the words of X
+-- after them are no part of it.
+unfoldable pub heldWords : List ℕ → ℕ → Extent
+heldWords s i =
+    let start = 8 * mapWordPlace (shapeOf s) (linkOf s i) 0 in
+    cond (mapped s i) (record { start = start; end = start + 8 * length (unitsOf s i) }) nowhere
+
+-- "for an unmapped chunk or a refusal the part is empty"
+abbrev pub ifAnswered : Status → Extent → Extent
+ifAnswered Answered e = e
+ifAnswered (Denied r) e = nowhere
+
+-- where the part that `held` hands back stands, for any image and chunk number
+abbrev pub heldExtent : List ℕ → ℕ → Extent
+heldExtent s i = ifAnswered (heldStatus s i) (heldWords s i)
+
+-- "that part of the caller's own image"
+abbrev pub part : List ℕ → Extent → List ℕ
+part s e = take (e .end - e .start) (drop (e .start) s)
+
+-- and its bytes
+abbrev pub heldPart : List ℕ → ℕ → List ℕ
+heldPart s i = part s (heldExtent s i)

@@ -1,0 +1,83 @@
+// The held words of a chunk's map, as a part of the lent image.
+use crate::Extent;
+use crate::Status;
+use image::Verdict;
+use image::load::load;
+use image::maps::link;
+use layout::ABSENT;
+use layout::Refusal;
+use layout::Shape;
+ghost use mathlib.Core.Path.{_≡_};
+ghost use mathlib.Core.Bool.{true};
+ghost use Prim.Native.Nat.{_<_, _≤_};
+ghost use lib.ListN.{length};
+ghost use Rattle.layout.specs.Shaped.{Shaped};
+ghost use Rattle.image.specs.Verdicts.{goodLink};
+ghost use Rattle.access.specs.Parts.{heldWords, heldExtent, heldPart, heldStatus};
+
+// Where the held words of chunk i's map stand, in a sound image.
+fn held_words(image: &[u8], g: Shape, i: usize) -> Extent
+    requires { ⌜ Shaped (now image) g ⌝ }
+    requires { ⌜ (i < g .c) × (goodLink (now image) i ≡ true) ⌝ }
+    ensures { λ r. ⌜ (r ≡ heldWords (now (image .entry)) i) × (r .start ≤ r .end) × (r .end ≤ length (now (image .entry))) ⌝ }
+{
+    let w = link(image, g, i);
+    if w == ABSENT {
+        return Extent { start: 0, end: 0 };
+    }
+    let k = w as usize;
+    let units = image::maps::held(image, g, k);
+    let c = g.c as usize;
+    let p = g.p as usize;
+    let start = 8 * (c + k * p);
+    let end = start + 8 * units;
+    Extent { start, end }
+}
+
+// Where a chunk's held words stand in the image: nowhere for an unmapped chunk or a refusal.
+pub fn held_extent(image: &[u8], chunk: u64) -> Extent
+    ensures { λ r. ⌜ (r ≡ heldExtent (now (image .entry)) chunk) × (r .start ≤ r .end) × (r .end ≤ length (now (image .entry))) ⌝ }
+{
+    let l = load(image);
+    let v = l.verdict;
+    match v {
+        Verdict::Refused(_) => Extent { start: 0, end: 0 },
+        Verdict::Passed => {
+            let g = l.shape;
+            let c = g.c as u64;
+            if chunk < c {
+                return held_words(image, g, chunk as usize);
+            }
+            Extent { start: 0, end: 0 }
+        }
+    }
+}
+
+// The held words of a chunk's map, as that part of the caller's own image; an empty part for an unmapped chunk or a refusal.
+pub fn held(image: &[u8], chunk: u64) -> &[u8]
+    ensures { λ r. ⌜ now r ≡ heldPart (now (image .entry)) chunk ⌝ }
+{
+    let e = held_extent(image, chunk);
+    let start = e.start;
+    let end = e.end;
+    &image[start..end]
+}
+
+// Whether `held` answers on the same inputs, or which refusal leaves its part empty.
+pub fn held_status(image: &[u8], chunk: u64) -> Status
+    ensures { λ r. ⌜ r ≡ heldStatus (now (image .entry)) chunk ⌝ }
+{
+    let l = load(image);
+    let v = l.verdict;
+    match v {
+        Verdict::Refused(r) => Status::Refused(r),
+        Verdict::Passed => {
+            let g = l.shape;
+            let c = g.c as u64;
+            if chunk < c {
+                return Status::Answered;
+            }
+            Status::Refused(Refusal::Range)
+        }
+    }
+}
