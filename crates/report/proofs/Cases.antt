@@ -1,0 +1,115 @@
+-- Worked cases of the report and the alarm as one table, computed: document 01's, and the edges of row 12 and of the comparisons.
+use Prim.Native.Nat.{ℕ, _+_, _-_, _^_}
+use mathlib.Core.Path.{_≡_, refl}
+use mathlib.Core.Bool.{Bool, true, false}
+use mathlib.Core.List.{List, [], _∷_}
+use lib.IntN.{pos, negsuc}
+use lib.Ieee.{Float, fin, nan, inf, lt, mul, div, ofInt, isNan}
+use Rattle.words.specs.Words.{number, digits}
+use Rattle.search.specs.Search.{from, all, any, keep, member, distinct, disjoint, lowestFrom, joined}
+use Rattle.layout.specs.declared.Refusal.the-variants.{Short, BadAlarm}
+use Rattle.layout.specs.Layout.{fresh, putWord, trailerOf, shapeBytes, sizeBytes, known, fitting, withinLimits, agreeing, shapeOf, wordsOf}
+use Rattle.image.specs.declared.Verdict.{Verdict}
+use Rattle.image.specs.declared.Verdict.the-variants.{Passed, Refused as Unsound}
+use Rattle.image.specs.Soundness.{leading, unitsOf}
+use Rattle.image.specs.Verdicts.{verdict, chunkVerdict, badLink, badMap, doubleClaim, firstClaim, contested, clash, wellFormed}
+use Rattle.image.specs.Free.{freeUnit, freeUnits, heldUnits}
+use Rattle.image.proofs.Cases.{small, third}
+use Rattle.report.specs.declared.Alarm.{Alarm}
+use Rattle.report.specs.declared.Alarm.the-variants.{Sounds, Silent, Refused}
+use Rattle.report.specs.declared.Level.{Level}
+use Rattle.report.specs.declared.Level.the-variants.{Count, Fraction}
+use Rattle.report.specs.Counts.{mappedCount}
+use Rattle.report.specs.Reports.{ratio, reportOf, reportAnswer}
+use Rattle.report.specs.Alarms.{alarmAt, alarmAnswer}
+
+-- one chunk that holds all of four units
+abbrev pub full : List ℕ
+unfolding fresh digits
+full = putWord (putWord (putWord (putWord (putWord (fresh (record { p = 4; c = 1; m = 2; n = 4 })) 0 0) 1 0) 2 1) 3 2) 4 3
+
+-- ---- floats
+
+-- 2^-1074, the least above 0; negative where s is true
+abbrev pub least : Bool → Float
+least s = fin s 1 (negsuc 1073)
+
+abbrev pub zero : Bool → Float
+zero s = fin s 0 (pos 0)
+
+abbrev pub one : Float
+one = fin false 1 (pos 0)
+
+-- the next above 1.0
+abbrev pub aboveOne : Float
+aboveOne = fin false (2 ^ 52 + 1) (negsuc 51)
+
+-- the f64 nearest to 0.2, and to 0.8, which is a little above it
+abbrev pub fifth : Float
+fifth = fin false 3602879701896397 (negsuc 53)
+
+abbrev pub fourFifths : Float
+fourFifths = fin false 3602879701896397 (negsuc 51)
+
+-- 0.75 and 0.875
+abbrev pub threeQuarters : Float
+threeQuarters = fin false 3 (negsuc 1)
+
+abbrev pub sevenEighths : Float
+sevenEighths = fin false 7 (negsuc 2)
+
+-- ---- the table
+
+pub data Case : Type 0 where
+  Reports : List ℕ → Verdict → ℕ → ℕ → ℕ → ℕ → Float → Float → Case
+  Alarms : List ℕ → Level → Alarm → Case
+
+abbrev pub Right : Case → Type 0
+Right (Reports s v m h f d x y) =
+    reportAnswer s ≡ record { verdict = v; report = record { mapped = m; held = h; free = f; saved = d; «held_ratio» = x; «saved_ratio» = y } }
+Right (Alarms s level a) = alarmAnswer s level ≡ a
+
+abbrev pub AllRight : List Case → Type 0
+AllRight [] = Unit {0}
+AllRight (k ∷ ks) = Right k × AllRight ks
+
+abbrev pub table : List Case
+table =
+    -- mapped, held, free, saved, held/N, saved/(C·P): 4/20 and 12/16
+    Reports third Passed 2 4 16 12 fifth threeQuarters
+    ∷ Reports (fresh small) Passed 0 0 20 16 (zero false) one
+    ∷ Reports full Passed 1 4 0 0 one (zero false)
+    -- no image
+    ∷ Reports [] (Unsound Short) 0 0 0 0 (zero false) (zero false)
+    -- "Free 16 of 20: fraction 0.75 silent, 0.875 sounds"
+    ∷ Alarms third (Fraction threeQuarters) Silent
+    ∷ Alarms third (Fraction sevenEighths) Sounds
+    -- the product is rounded, here to 16, before it is compared
+    ∷ Alarms third (Fraction fourFifths) Silent
+    -- below, not at, the level
+    ∷ Alarms third (Count 16) Silent
+    ∷ Alarms third (Count 17) Sounds
+    ∷ Alarms (fresh small) (Fraction one) Silent
+    ∷ Alarms third (Fraction one) Sounds
+    -- any count is a level
+    ∷ Alarms full (Count 0) Silent
+    ∷ Alarms third (Count (2 ^ 64 - 1)) Sounds
+    -- neither zero sounds, even where nothing is free; the least fraction above 0 does there
+    ∷ Alarms full (Fraction (zero false)) Silent
+    ∷ Alarms full (Fraction (zero true)) Silent
+    ∷ Alarms full (Fraction (least false)) Sounds
+    ∷ Alarms third (Fraction (least false)) Silent
+    -- not a number, below 0, above 1
+    ∷ Alarms third (Fraction nan) (Refused BadAlarm)
+    ∷ Alarms third (Fraction (least true)) (Refused BadAlarm)
+    ∷ Alarms third (Fraction aboveOne) (Refused BadAlarm)
+    ∷ Alarms third (Fraction (inf false)) (Refused BadAlarm)
+    ∷ Alarms third (Fraction (inf true)) (Refused BadAlarm)
+    -- the image's refusal comes first
+    ∷ Alarms [] (Fraction nan) (Refused Short)
+    ∷ []
+
+pub cases-right : AllRight table
+unfolding verdict chunkVerdict badLink badMap doubleClaim firstClaim contested clash wellFormed leading unitsOf freeUnit freeUnits heldUnits lowestFrom all any keep member distinct disjoint joined known fitting withinLimits agreeing fresh trailerOf shapeBytes sizeBytes number digits from shapeOf wordsOf lt mul div ofInt isNan mappedCount ratio reportOf alarmAt
+cases-right =
+    (refl, (refl, (refl, (refl, (refl, (refl, (refl, (refl, (refl, (refl, (refl, (refl, (refl, (refl, (refl, (refl, (refl, (refl, (refl, (refl, (refl, (refl, (refl, tt)))))))))))))))))))))))

@@ -1,0 +1,12 @@
+-- `report::reports::refused` meets its contract.
+use mathlib.Core.Path.{refl}
+use lib.Ieee.{ofBits}
+use Rattle.report.proofs.reports.refused.Statement.{statement}
+use Rattle.report.proofs.reports.refused.Tie as tie
+
+returns : tie.Need-returns
+unfolding ofBits
+returns c = refl
+
+pub refused-spec : {M : Type 1} → statement M
+refused-spec = tie.close (tie.spec returns)

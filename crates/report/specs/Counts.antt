@@ -1,0 +1,29 @@
+-- The report's counts, of a sound image: "mapped chunks, held units, free units, saved units (C·P less held)". What is saved stands apart: of
+-- all definitions only rawCount, savedCount and savedRatio say it.
+use Prim.Native.Nat.{ℕ, _-_, _*_}
+use mathlib.Core.List.{List}
+use lib.ListN.{length}
+use Rattle.search.specs.Search.{below, keep}
+use Rattle.layout.specs.Layout.{shapeOf}
+use Rattle.image.specs.Soundness.{mapped}
+use Rattle.image.specs.Free.{freeUnits, heldUnits}
+
+-- "mapped chunks": those whose entry is not X
+unfoldable pub mappedCount : List ℕ → ℕ
+mappedCount s = length (keep (mapped s) (below (shapeOf s .c)))
+
+-- "Held units are those in named maps": what stands in a map that no chunk names does not count, and in a sound image no unit is named twice
+abbrev pub heldCount : List ℕ → ℕ
+heldCount s = length (heldUnits s)
+
+-- "all others are free"
+abbrev pub freeCount : List ℕ → ℕ
+freeCount s = length (freeUnits s)
+
+-- "C·P": the units that all chunks would take, stored raw
+abbrev pub rawCount : List ℕ → ℕ
+rawCount s = shapeOf s .c * shapeOf s .p
+
+-- "saved units (C·P less held)"
+abbrev pub savedCount : List ℕ → ℕ
+savedCount s = rawCount s - heldCount s

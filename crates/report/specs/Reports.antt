@@ -1,0 +1,56 @@
+-- The report: "one record of four counts and two ratios".
+use Prim.Native.Nat.{ℕ}
+use mathlib.Core.Bool.{false}
+use mathlib.Core.List.{List}
+use lib.IntN.{pos}
+use lib.Ieee.{Float, fin, binary64, div, ofInt}
+use Rattle.layout.specs.declared.Refusal.{Refusal}
+use Rattle.layout.specs.Layout.{shapeOf}
+use Rattle.image.specs.declared.Verdict.the-variants.{Passed, Refused}
+use Rattle.image.specs.Verdicts.{verdict}
+use Rattle.image.specs.Answers.{ifSound}
+use Rattle.report.specs.declared.Report.{Report}
+use Rattle.report.specs.declared.Reported.{Reported}
+use Rattle.report.specs.Counts.{mappedCount, heldCount, freeCount, rawCount, savedCount}
+
+-- the float +0.0
+abbrev pub zero64 : Float
+zero64 = fin false 0 (pos 0)
+
+-- "as f64 from exact counts and one rounded division": a / b
+unfoldable pub ratio : ℕ → ℕ → Float
+ratio a b = div binary64 (ofInt binary64 (pos a)) (ofInt binary64 (pos b))
+
+-- "held/N"
+abbrev pub heldRatio : List ℕ → Float
+heldRatio s = ratio (heldCount s) (shapeOf s .n)
+
+-- "saved/(C·P)"
+abbrev pub savedRatio : List ℕ → Float
+savedRatio s = ratio (savedCount s) (rawCount s)
+
+-- of a sound image
+unfoldable pub reportOf : List ℕ → Report
+reportOf s = record {
+  mapped = mappedCount s;
+  held = heldCount s;
+  free = freeCount s;
+  saved = savedCount s;
+  «held_ratio» = heldRatio s;
+  «saved_ratio» = savedRatio s;
+}
+
+-- the answer for a sound image
+abbrev pub passedReport : Report → Reported
+passedReport x = record { verdict = Passed; report = x }
+
+-- the answer for any other: "what it returns besides number and place is 0"
+abbrev pub refusedReport : Refusal → Reported
+refusedReport r = record {
+  verdict = Refused r;
+  report = record { mapped = 0; held = 0; free = 0; saved = 0; «held_ratio» = zero64; «saved_ratio» = zero64 };
+}
+
+-- what `report` answers
+abbrev pub reportAnswer : List ℕ → Reported
+reportAnswer s = ifSound (verdict s) refusedReport (passedReport (reportOf s))
