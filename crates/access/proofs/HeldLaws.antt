@@ -21,7 +21,7 @@ use Rattle.image.specs.Soundness.{mapped, unitsOf, leading}
 use Rattle.image.specs.Verdicts.{verdict}
 use Rattle.image.specs.Claims.{Tested}
 use Rattle.image.specs.Answers.{ifSound}
-use Rattle.image.proofs.SoundLaws.{verdict-sound}
+use Rattle.image.proofs.SoundLaws.{passed-tested}
 use Rattle.image.proofs.Leading.{leading-at}
 use Rattle.image.proofs.Chunks.{getD-wordsOf, mapped-named, named-below, units-mapped, length-units}
 use Rattle.access.specs.declared.Status.the-variants.{Answered, Refused as Denied}
@@ -44,7 +44,7 @@ answered s i e = at (verdict s) refl e
   where
     at : (v : Verdict) → verdict s ≡ v → ifSound v Denied (cond (ltb i (shapeOf s .c)) Answered (Denied Range)) ≡ Answered → Tested s × (i < shapeOf s .c)
     at (Unsound r) p h = let z : _≡_ {A = ℕ} 0 1 = cc in absurd (omega arith)
-    at Passed p h = (verdict-sound s p, ltb-true i (shapeOf s .c) (in-range (ltb i (shapeOf s .c)) h))
+    at Passed p h = (passed-tested s p, ltb-true i (shapeOf s .c) (in-range (ltb i (shapeOf s .c)) h))
 
 -- ---- a mapped chunk, where the companion answers
 

@@ -23,11 +23,11 @@ use Rattle.image.proofs.MapWords.{in-maps, length-mapOf}
 use Rattle.image.proofs.Loads.{Known}
 use Rattle.access.specs.declared.Extent.{Extent}
 use Rattle.access.specs.declared.Status.the-variants.{Answered, Refused as Denied}
-use Rattle.access.specs.Parts.{heldStatus, nowhere, heldWords, heldExtent}
+use Rattle.access.specs.Parts.{heldStatus, emptyExtent, heldWords, heldExtent}
 
 -- ---- chunk i
 
-pub words-absent : (s : List ℕ) (i : ℕ) → mapped s i ≡ false → nowhere ≡ heldWords s i
+pub words-absent : (s : List ℕ) (i : ℕ) → mapped s i ≡ false → emptyExtent ≡ heldWords s i
 unfolding heldWords
 words-absent s i m = rw m
 
@@ -57,7 +57,7 @@ module _ (s : List ℕ) (g : Shape) (i w : ℕ) (h : Shaped s g) (ew : w ≡ lin
 
 -- ---- the answers on chunk i of an image that load has refused, and of one that it has passed
 
-pub extent-refused : (s : List ℕ) (i : ℕ) (r : Refusal) → verdict s ≡ Refused r → nowhere ≡ heldExtent s i
+pub extent-refused : (s : List ℕ) (i : ℕ) (r : Refusal) → verdict s ≡ Refused r → emptyExtent ≡ heldExtent s i
 extent-refused s i r e = rw e
 
 module _ (s : List ℕ) (l : Loaded) (k : Known s l) (i : ℕ) where
@@ -76,5 +76,5 @@ module _ (s : List ℕ) (l : Loaded) (k : Known s l) (i : ℕ) where
   pub extent-in : i < l .shape .c → heldWords s i ≡ heldExtent s i
   extent-in b = rw (k .passed, lt-ltb i (shapeOf s .c) (omega (arith, chunks)))
 
-  pub extent-out : l .shape .c ≤ i → nowhere ≡ heldExtent s i
+  pub extent-out : l .shape .c ≤ i → emptyExtent ≡ heldExtent s i
   extent-out b = rw (k .passed, le-ltb i (shapeOf s .c) (omega (arith, chunks)))

@@ -22,7 +22,7 @@ use Rattle.image.specs.declared.Verdict.the-variants.{Passed, Refused as Unsoun
 use Rattle.image.specs.Soundness.{mapped, unitsOf}
 use Rattle.image.specs.Verdicts.{verdict}
 use Rattle.image.specs.Answers.{ifSound}
-use Rattle.image.proofs.SoundLaws.{verdict-sound}
+use Rattle.image.proofs.SoundLaws.{passed-tested}
 use Rattle.image.proofs.Leading.{form-of}
 use Rattle.image.proofs.Chunks.{mapped-named, named-map, units-mapped, units-unmapped}
 use Rattle.access.specs.declared.Piece.{Piece}
@@ -31,7 +31,7 @@ use Rattle.access.specs.declared.Extent.{Extent}
 use Rattle.access.specs.declared.Status.{Status}
 use Rattle.access.specs.declared.Status.the-variants.{Answered, Refused as NotHeld}
 use Rattle.access.specs.Ranges.{chunkBytes, goodRange, firstChunk, lastChunk, pieces, piecesOf, pieceBytes, splitIn, splitAnswer, goodPiece}
-use Rattle.access.specs.Parts.{heldStatus, nowhere, heldWords, ifAnswered, part, heldPart}
+use Rattle.access.specs.Parts.{heldStatus, emptyExtent, heldWords, ifAnswered, part, heldPart}
 use Rattle.access.specs.Tiling.{Tiles, Tiled}
 use Rattle.access.specs.Holding.{Holds}
 use Rattle.access.proofs.RangeLaws.{good}
@@ -60,7 +60,7 @@ split-tiles s offset span room count e = at (verdict s) refl e
         let b = chunkBytes g in
         let n = length (piecesOf g offset span) in
         let f = split-found (goodRange g offset span) (ltb room (pieceBytes * n)) (Small (pieceBytes * n)) Range n count h in
-        let l = fitting-limits s (verdict-sound s p .fitting) in
+        let l = fitting-limits s (passed-tested s p .fitting) in
         let k = good g b offset span l refl (f .0) in
         record {
           good = f .0;
@@ -107,7 +107,7 @@ held-refused s i r e = ap (λ (a : Status). part s (ifAnswered a (heldWords s i)
 pub held-unmapped : (s : List ℕ) (i : ℕ) → mapped s i ≡ false → heldPart s i ≡ []
 held-unmapped s i m = ap (λ (x : Extent). part s (ifAnswered (heldStatus s i) x)) (sym (words-absent s i m)) ∙ none (heldStatus s i)
   where
-    none : (a : Status) → part s (ifAnswered a nowhere) ≡ []
+    none : (a : Status) → part s (ifAnswered a emptyExtent) ≡ []
     none Answered = refl
     none (NotHeld r) = refl
 

@@ -4,7 +4,6 @@ use mathlib.Core.Bool.{cond}
 use mathlib.Core.List.{List}
 use lib.ListN.{length, take, drop}
 use lib.Dec.{ltb}
-use Rattle.layout.specs.declared.Refusal.{Refusal}
 use Rattle.layout.specs.declared.Refusal.the-variants.{Range}
 use Rattle.layout.specs.Layout.{shapeOf, linkOf, mapWordPlace}
 use Rattle.image.specs.Soundness.{mapped, unitsOf}
@@ -19,20 +18,20 @@ abbrev pub heldStatus : List ℕ → ℕ → Status
 heldStatus s i = ifSound (verdict s) Denied (cond (ltb i (shapeOf s .c)) Answered (Denied Range))
 
 -- an empty part
-abbrev pub nowhere : Extent
-nowhere = record { start = 0; end = 0 }
+abbrev pub emptyExtent : Extent
+emptyExtent = record { start = 0; end = 0 }
 
 -- "The held words of a chunk's map": where its k unit words stand, 8·k bytes from word 0 of the map on. They are not the whole map: the words of X
 -- after them are no part of it.
 unfoldable pub heldWords : List ℕ → ℕ → Extent
 heldWords s i =
     let start = 8 * mapWordPlace (shapeOf s) (linkOf s i) 0 in
-    cond (mapped s i) (record { start = start; end = start + 8 * length (unitsOf s i) }) nowhere
+    cond (mapped s i) (record { start = start; end = start + 8 * length (unitsOf s i) }) emptyExtent
 
 -- "for an unmapped chunk or a refusal the part is empty"
 abbrev pub ifAnswered : Status → Extent → Extent
 ifAnswered Answered e = e
-ifAnswered (Denied r) e = nowhere
+ifAnswered (Denied r) e = emptyExtent
 
 -- where the part that `held` hands back stands, for any image and chunk number
 abbrev pub heldExtent : List ℕ → ℕ → Extent

@@ -7,7 +7,6 @@ use lib.Dec.{eqb, ltb, leb}
 use Rattle.words.specs.Words.{digits}
 use Rattle.search.specs.Search.{from}
 use Rattle.layout.specs.declared.Shape.{Shape}
-use Rattle.layout.specs.declared.Refusal.{Refusal}
 use Rattle.layout.specs.declared.Refusal.the-variants.{Range, Small}
 use Rattle.layout.specs.Layout.{unitBytes, shapeOf}
 use Rattle.image.specs.Soundness.{mapped}

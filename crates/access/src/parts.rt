@@ -26,7 +26,7 @@ fn held_words(image: &[u8], g: Shape, i: usize) -> Extent
         return Extent { start: 0, end: 0 };
     }
     let k = w as usize;
-    let units = image::maps::held(image, g, k);
+    let units = image::maps::held_count(image, g, k);
     let c = g.c as usize;
     let p = g.p as usize;
     let start = 8 * (c + k * p);
@@ -34,7 +34,7 @@ fn held_words(image: &[u8], g: Shape, i: usize) -> Extent
     Extent { start, end }
 }
 
-// Where a chunk's held words stand in the image: nowhere for an unmapped chunk or a refusal.
+// Where a chunk's held words stand in the image: an empty extent for an unmapped chunk or a refusal.
 pub fn held_extent(image: &[u8], chunk: u64) -> Extent
     ensures { λ r. ⌜ (r ≡ heldExtent (now (image .entry)) chunk) × (r .start ≤ r .end) × (r .end ≤ length (now (image .entry))) ⌝ }
 {

@@ -6,6 +6,9 @@ ghost use lib.Dec.{ltb};
 ghost use Rattle.search.specs.Search.{firstOr};
 ghost use Rattle.bitset.specs.Bits.{bits, bitSet, inSet, limit, inserted, removed, membersFrom, members};
 
+// A word with all its bits.
+const FULL: u64 = 18446744073709551615;
+
 // Whether u is in the set: no number past the last word is.
 pub fn contains(set: &[u64], u: u64) -> bool
     ensures { λ r. ⌜ r ≡ inSet (now (set .entry)) u ⌝ }
@@ -46,6 +49,7 @@ pub fn remove(set: &mut [u64], u: usize)
     if set.len() <= i {
         return;
     }
+    // The bit is set first, so that the difference clears it and never wraps.
     set[i] = (set[i] | b) - b;
 }
 
@@ -55,7 +59,7 @@ fn word_below(n: usize, i: usize) -> u64
 {
     let last = n / 64;
     if i < last {
-        return 18446744073709551615;
+        return FULL;
     }
     if last < i {
         return 0;

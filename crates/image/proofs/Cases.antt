@@ -7,6 +7,7 @@ use Rattle.search.specs.Search.{from, below, joined, all, any, keep, member, di
 use Rattle.bitset.specs.Bits.{bits, bitSet}
 use Rattle.layout.specs.declared.Shape.{Shape}
 use Rattle.layout.specs.declared.Refusal.the-variants.{Short, BadLink, BadMap, Shared}
+use Rattle.layout.specs.Trailer.{trailerOutcome}
 use Rattle.layout.specs.Layout.{X, fresh, putWord, trailerOf, shapeBytes, sizeBytes, known, fitting, withinLimits, shapeOf, agreeing, wordsOf}
 use Rattle.image.specs.declared.Verdict.the-variants.{Refused, Passed}
 use Rattle.image.specs.Soundness.{leading, unitsOf}
@@ -27,22 +28,22 @@ unfolding fresh digits
 shared = putWord (putWord (putWord (fresh small) 0 0) 3 0) 4 7
 
 -- clashes 0-3 (map 0) and 1-2 (map 1), each map with a unit of its own
-abbrev crossed : List ℕ
+abbrev twoClashes : List ℕ
 unfolding fresh digits
-crossed = putWord (putWord (putWord (putWord shared 1 1) 2 1) 8 9) 9 X
+twoClashes = putWord (putWord (putWord (putWord shared 1 1) 2 1) 8 9) 9 X
 
 -- the third write's image with unit 3 twice in chunk 0's map, with a map that begins with X, with a link to map 5
 abbrev twice : List ℕ
 unfolding fresh digits
 twice = putWord third 13 3
 
-abbrev hollow : List ℕ
+abbrev emptyMap : List ℕ
 unfolding fresh digits
-hollow = putWord third 12 X
+emptyMap = putWord third 12 X
 
-abbrev astray : List ℕ
+abbrev badEntry : List ℕ
 unfolding fresh digits
-astray = putWord hollow 1 5
+badEntry = putWord emptyMap 1 5
 
 worked :
     (verdict [] ≡ Refused Short)
@@ -50,14 +51,14 @@ worked :
     × (freeUnits (fresh small) ≡ below 20)
     × (freeMaps (fresh small) ≡ below 5)
     × (verdict shared ≡ Refused (Shared 0 3))
-    × (verdict crossed ≡ Refused (Shared 1 2))
+    × (verdict twoClashes ≡ Refused (Shared 1 2))
     × (verdict twice ≡ Refused (Shared 0 0))
-    × (verdict hollow ≡ Refused (BadMap 0))
-    × (verdict astray ≡ Refused (BadLink 1))
+    × (verdict emptyMap ≡ Refused (BadMap 0))
+    × (verdict badEntry ≡ Refused (BadLink 1))
     × (verdict third ≡ Passed)
     × (heldUnits third ≡ 3 ∷ 4 ∷ 0 ∷ 1 ∷ [])
     × (freeUnits third ≡ 2 ∷ from 5 15)
     × (freeMaps third ≡ 1 ∷ 3 ∷ 4 ∷ [])
     × (bitSet (freeUnit third) 2 ≡ 1048548 ∷ 0 ∷ [])
-unfolding joined verdict chunkVerdict badLink badMap doubleClaim firstClaim contested clash wellFormed leading unitsOf heldUnits freeUnits freeUnit freeMaps freeMap lowestFrom all any keep member distinct disjoint known fitting withinLimits agreeing fresh trailerOf shapeBytes sizeBytes number digits from shapeOf wordsOf bits bitSet
+unfolding joined verdict trailerOutcome chunkVerdict badLink badMap doubleClaim firstClaim contested clash wellFormed leading unitsOf heldUnits freeUnits freeUnit freeMaps freeMap lowestFrom all any keep member distinct disjoint known fitting withinLimits agreeing fresh trailerOf shapeBytes sizeBytes number digits from shapeOf wordsOf bits bitSet
 worked = (refl, refl, refl, refl, refl, refl, refl, refl, refl, refl, refl, refl, refl, refl)

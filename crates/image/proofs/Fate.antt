@@ -1,4 +1,5 @@
--- What a change of the image does to a chunk, and that a sound image stays sound: each chunk is kept, emptied, or renewed on a free map and free units.
+-- What a change of the image does to a chunk, and that a sound image stays sound: each chunk is kept, emptied, or renewed on a free map and free units, and
+-- no two renewed chunks share a map or unit.
 use Prim.Native.Nat.{ℕ, _<_}
 use mathlib.Core.Path.{_≡_, sym, ap, _∙_, subst}
 use mathlib.Core.Logic.{_⊎_, inl, inr, _≢_}

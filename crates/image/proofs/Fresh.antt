@@ -48,7 +48,7 @@ module _ (g : Shape) (l : Limits g) where
         entries = λ i h m. absurd (m (absent-fresh i h));
         maps = λ i j h k m e. absurd (m (absent-fresh i h));
         forms = λ i h m. absurd (m (absent-fresh i h));
-        units = λ i j a b h k m. absurd (m (absent-fresh i h));
+        units = λ u i j a b n m. absurd (n .named (absent-fresh i (n .chunk)));
       }
 
   pub shape-fresh : shapeOf (fresh g) ≡ g

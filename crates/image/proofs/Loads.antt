@@ -15,7 +15,7 @@ use Rattle.image.specs.Verdicts.{verdict}
 use Rattle.image.specs.Free.{freeUnit, freeMap}
 use Rattle.image.specs.Loading.{answer, loaded}
 use Rattle.image.specs.Answers.{ifSound}
-use Rattle.image.proofs.SoundLaws.{verdict-sound}
+use Rattle.image.proofs.SoundLaws.{passed-tested}
 
 answer-verdict : (v : Verdict) (s : List ℕ) → answer v s .verdict ≡ v
 answer-verdict Passed s = refl
@@ -38,7 +38,7 @@ module _ (s : List ℕ) (l : Loaded) (e : l ≡ loaded s) where
   loaded-known p =
       let v : verdict s ≡ Passed = sym loaded-verdict ∙ p in
       let q : l ≡ answer Passed s = e ∙ ap (λ (w : Verdict). answer w s) v in
-      let z : Tested s = verdict-sound s v in
+      let z : Tested s = passed-tested s v in
       let g : l .shape ≡ shapeOf s = ap (λ (a : Loaded). a .shape) q in
       record {
         passed = v;

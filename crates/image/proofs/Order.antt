@@ -1,4 +1,4 @@
--- Soundness as propositions at a fixed shape: `Orderly g s` says of each chunk, and of each two, what `Sound s` says by tests.
+-- Soundness as propositions at a fixed shape: `Orderly g s` says of each chunk, and of each two, what `Tested s` says by tests.
 use Prim.Native.Nat.{ℕ, _<_}
 use mathlib.Core.Path.{_≡_, refl, sym, ap, subst}
 use mathlib.Core.Logic.{_⊎_, inl, inr, _≢_}
@@ -87,8 +87,8 @@ orderly {s} d = record {
     ordered i j h k n (inl l) = clash-apart s i j (d .apart i j (ltb-true i j l) k)
     ordered i j h k n (inr l) = apart-flip (clash-apart s j i (d .apart j i (omega (arith, ltb-false i j l)) h))
 
-pub orderly-sound : {g : Shape} {s : List ℕ} → Orderly g s → Tested s
-orderly-sound {g} {s} d =
+pub orderly-tested : {g : Shape} {s : List ℕ} → Orderly g s → Tested s
+orderly-tested {g} {s} d =
     let e : shapeOf s ≡ g = d .on .shape in
     record {
       long = d .on .long;

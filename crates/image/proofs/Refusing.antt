@@ -1,5 +1,5 @@
 -- An image is refused with the row that holds of it: `verdict` against the rows to read.
-use Prim.Native.Nat.{ℕ, _<_}
+use Prim.Native.Nat.{ℕ, _≤_, _<_}
 use mathlib.Core.Path.{_≡_, refl, sym, ap, subst, _∙_}
 use mathlib.Core.Logic.{_⊎_, inl, inr, ⊎-elim}
 use mathlib.Core.Bool.{Bool, true, false, not, cond}
@@ -7,17 +7,18 @@ use mathlib.Core.List.{List}
 use native.Mathlib.Omega.{arith}
 use lib.ListN.{length}
 use lib.Dec.{ltb}
-use borrow.Author.Tests.{ltb-true, ltb-false, lt-ltb, le-ltb, not-true, not-false}
+use borrow.Author.Tests.{ltb-true, ltb-false, lt-ltb, le-ltb, not-false}
 use Rattle.search.specs.Search.{lowest}
 use Rattle.search.proofs.Bools.{either}
 use Rattle.search.proofs.Ranges.{lowest-before, lowest-holds, lowest-is, lowest-none, lowest-le}
 use Rattle.layout.specs.declared.Refusal.{Refusal}
 use Rattle.layout.specs.declared.Refusal.the-variants.{Short, Foreign, Geometry, BadLink, BadMap, Shared, Range, Size, NoRoom, Small, BadPlan, BadAlarm}
 use Rattle.layout.specs.Layout.{trailerBytes, shapeOf, known, fitting}
+use Rattle.layout.specs.Trailer.{trailerOutcome}
 use Rattle.image.specs.declared.Verdict.{Verdict}
 use Rattle.image.specs.declared.Verdict.the-variants.{Refused, Passed}
 use Rattle.image.specs.Verdicts.{goodLink, goodMap, clash, contested, badLink, badMap, doubleClaim, firstClaim, chunkVerdict, verdict}
-use Rattle.image.specs.Rows.{LowestOf, Trailed, Linked, Formed, Row}
+use Rattle.image.specs.Rows.{LowestOf, PastRow3, PastRow4, PastRow5, Row}
 
 -- ---- the lowest, found and said
 
@@ -53,43 +54,58 @@ module _ (s : List ℕ) where
       (λ e. inr (omega (arith, lowest-le f j, ltb-false (lowest f j) j e), none-found f j e))
       (either (ltb (lowest f j) j))
 
-  says-sharing : Formed s → Says s (cond (ltb (doubleClaim s) c) (Refused (Shared (firstClaim s (doubleClaim s)) (doubleClaim s))) Passed)
+  says-sharing : PastRow5 s → Says s (cond (ltb (doubleClaim s) c) (Refused (Shared (firstClaim s (doubleClaim s)) (doubleClaim s))) Passed)
   unfolding doubleClaim
   says-sharing f =
       says-cond s (ltb (doubleClaim s) c) (Shared (firstClaim s (doubleClaim s)) (doubleClaim s)) Passed
       (λ e. (f, found-lowest (contested s) c e, first-chunk (doubleClaim s))) (λ e. tt)
 
-  says-chunks : Trailed s → Says s (chunkVerdict s)
+  says-chunks : PastRow3 s → Says s (chunkVerdict s)
   unfolding chunkVerdict badLink badMap
   says-chunks t =
       says-cond s (ltb (badLink s) c) (BadLink (badLink s)) _ (λ e. (t, found-lowest (λ j. not (goodLink s j)) c e)) (λ e.
-      let l : Linked s = (t, λ i h. not-false _ (none-found (λ j. not (goodLink s j)) c e i h)) in
+      let l : PastRow4 s = (t, λ i h. not-false _ (none-found (λ j. not (goodLink s j)) c e i h)) in
       says-cond s (ltb (badMap s) c) (BadMap (badMap s)) _ (λ d. (l, found-lowest (λ j. not (goodMap s j)) c d)) (λ d.
       says-sharing (l, λ i h. not-false _ (none-found (λ j. not (goodMap s j)) c d i h))))
 
+  short-verdict : length s < trailerBytes → verdict s ≡ Refused Short
+  unfolding verdict trailerOutcome
+  short-verdict l = rw (lt-ltb (length s) trailerBytes l)
+
+  foreign-verdict : trailerBytes ≤ length s → known s ≡ false → verdict s ≡ Refused Foreign
+  unfolding verdict trailerOutcome
+  foreign-verdict l k = rw (le-ltb (length s) trailerBytes l, k)
+
+  geometry-verdict : trailerBytes ≤ length s → known s ≡ true → fitting s ≡ false → verdict s ≡ Refused Geometry
+  unfolding verdict trailerOutcome
+  geometry-verdict l k f = rw (le-ltb (length s) trailerBytes l, k, f)
+
+  trailed-verdict : PastRow3 s → verdict s ≡ chunkVerdict s
+  unfolding verdict trailerOutcome
+  trailed-verdict t = rw (le-ltb (length s) trailerBytes (t .0), t .1, t .2)
+
   says-verdict : Says s (verdict s)
-  unfolding verdict
   says-verdict =
-      says-cond s (ltb (length s) trailerBytes) Short _ (ltb-true (length s) trailerBytes) (λ a.
-      let long = ltb-false (length s) trailerBytes a in
-      says-cond s (not (known s)) Foreign _ (λ e. (long, not-true (known s) e)) (λ b.
-      says-cond s (not (fitting s)) Geometry _ (λ e. (long, not-false (known s) b, not-true (fitting s) e)) (λ d.
-      says-chunks (long, not-false (known s) b, not-false (fitting s) d))))
+      ⊎-elim (λ a. let l = ltb-true (length s) trailerBytes a in subst (Says s) (sym (short-verdict l)) l) (λ a.
+      let l = ltb-false (length s) trailerBytes a in
+      ⊎-elim (λ k. ⊎-elim
+      (λ f. subst (Says s) (sym (trailed-verdict (l, k, f))) (says-chunks (l, k, f)))
+      (λ f. subst (Says s) (sym (geometry-verdict l k f)) (l, k, f))
+      (either (fitting s)))
+      (λ k. subst (Says s) (sym (foreign-verdict l k)) (l, k))
+      (either (known s)))
+      (either (ltb (length s) trailerBytes))
 
   pub refused-row : (r : Refusal) → verdict s ≡ Refused r → Row s r
   refused-row r e = subst (Says s) e says-verdict
 
   -- ---- and what the rows say of the verdict
 
-  trailed-verdict : Trailed s → verdict s ≡ chunkVerdict s
-  unfolding verdict
-  trailed-verdict t = rw (le-ltb (length s) trailerBytes (t .0), t .1, t .2)
-
-  linked-none : Linked s → badLink s ≡ c
+  linked-none : PastRow4 s → badLink s ≡ c
   unfolding badLink
   linked-none l = lowest-none (λ j. not (goodLink s j)) c (λ i h. ap not (l .1 i h))
 
-  formed-none : Formed s → badMap s ≡ c
+  formed-none : PastRow5 s → badMap s ≡ c
   unfolding badMap
   formed-none f = lowest-none (λ j. not (goodMap s j)) c (λ i h. ap not (f .1 i h))
 
@@ -97,11 +113,11 @@ module _ (s : List ℕ) where
   unfolding chunkVerdict badLink
   link-verdict i h = rw (lowest-found (λ j. not (goodLink s j)) c i h, lt-ltb i c (h .0))
 
-  map-verdict : (i : ℕ) → Linked s → LowestOf (λ j. not (goodMap s j)) c i → chunkVerdict s ≡ Refused (BadMap i)
+  map-verdict : (i : ℕ) → PastRow4 s → LowestOf (λ j. not (goodMap s j)) c i → chunkVerdict s ≡ Refused (BadMap i)
   unfolding chunkVerdict badMap
   map-verdict i l h = rw (linked-none l, le-ltb c c (omega arith), lowest-found (λ j. not (goodMap s j)) c i h, lt-ltb i c (h .0))
 
-  shared-verdict : (i j : ℕ) → Formed s → LowestOf (contested s) c j → firstClaim s j ≡ i → chunkVerdict s ≡ Refused (Shared i j)
+  shared-verdict : (i j : ℕ) → PastRow5 s → LowestOf (contested s) c j → firstClaim s j ≡ i → chunkVerdict s ≡ Refused (Shared i j)
   unfolding chunkVerdict doubleClaim
   shared-verdict i j f h e =
       rw (linked-none (f .0), formed-none f, le-ltb c c (omega arith), lowest-found (contested s) c j h, lt-ltb j c (h .0), e)
@@ -112,10 +128,9 @@ module _ (s : List ℕ) where
   first-is i j (inr h) = lowest-none (λ k. clash s k j) j (h .1) ∙ sym (h .0)
 
   pub row-refused : (r : Refusal) → Row s r → verdict s ≡ Refused r
-  unfolding verdict
-  row-refused Short h = rw (lt-ltb (length s) trailerBytes h)
-  row-refused Foreign h = rw (le-ltb (length s) trailerBytes (h .0), h .1)
-  row-refused Geometry h = rw (le-ltb (length s) trailerBytes (h .0), h .1, h .2)
+  row-refused Short h = short-verdict h
+  row-refused Foreign h = foreign-verdict (h .0) (h .1)
+  row-refused Geometry h = geometry-verdict (h .0) (h .1) (h .2)
   row-refused (BadLink i) h = trailed-verdict (h .0) ∙ link-verdict i (h .1)
   row-refused (BadMap i) h = trailed-verdict (h .0 .0) ∙ map-verdict i (h .0) (h .1)
   row-refused (Shared i j) h = trailed-verdict (h .0 .0 .0) ∙ shared-verdict i j (h .0) (h .1) (first-is i j (h .2))

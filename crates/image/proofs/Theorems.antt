@@ -14,31 +14,32 @@ use Rattle.bitset.proofs.BitSets.{bitSet-ext}
 use Rattle.layout.specs.declared.Shape.{Shape}
 use Rattle.layout.specs.declared.Refusal.{Refusal}
 use Rattle.layout.specs.declared.Formatted.the-variants.{Done}
-use Rattle.layout.specs.Layout.{isUnit, shapeOf, fresh}
+use Rattle.layout.specs.Layout.{X, isUnit, wordAt, shapeOf, fresh}
+use Rattle.layout.specs.Shaped.{wordCount}
 use Rattle.layout.specs.Format.{formatAnswer, formatImage}
 use Rattle.layout.proofs.Limits.{limits}
 use Rattle.layout.proofs.Formatting.{formatted}
 use Rattle.image.specs.declared.Verdict.{Verdict}
 use Rattle.image.specs.declared.Verdict.the-variants.{Refused, Passed}
-use Rattle.image.specs.Soundness.{Sound}
+use Rattle.image.specs.Soundness.{NamesUnit, Sound}
 use Rattle.image.specs.Verdicts.{verdict}
 use Rattle.image.specs.Rows.{Row}
 use Rattle.image.specs.Free.{freeUnit, freeMap, freeUnits, freeMaps, heldUnits}
 use Rattle.image.specs.Loading.{unitSetWords, mapSetWords, answer, loaded}
-use Rattle.image.proofs.SoundLaws.{verdict-sound, sound-verdict}
-use Rattle.image.proofs.Wording.{tested-sound, sound-tested, sound-shape}
+use Rattle.image.proofs.SoundLaws.{passed-tested, tested-passed}
+use Rattle.image.proofs.Wording.{tested-sound, sound-tested, sound-shape, held-named, named-held}
 use Rattle.image.proofs.Refusing.{refused-row, row-refused}
 use Rattle.image.proofs.Room.{free-or-held, held-below, distinct-held, free-and-held, some-map-free, units-free}
-use Rattle.image.proofs.Fresh.{sound-fresh, freeUnit-fresh, freeMap-fresh}
+use Rattle.image.proofs.Fresh.{word-fresh, sound-fresh, freeUnit-fresh, freeMap-fresh}
 
 -- ---- "every sound image loaded, every other refused"
 
 -- The verdict passes an image exactly where it is sound.
 pub passed-is-sound : (s : List ℕ) → Bytes s → verdict s ≡ Passed → Sound (shapeOf s) s
-passed-is-sound s b e = tested-sound s (verdict-sound s e) b
+passed-is-sound s b e = tested-sound s (passed-tested s e) b
 
 pub sound-is-passed : (g : Shape) (s : List ℕ) → Sound g s → (verdict s ≡ Passed) × (shapeOf s ≡ g)
-sound-is-passed g s z = (sound-verdict s (sound-tested g s z), sound-shape g s z)
+sound-is-passed g s z = (tested-passed s (sound-tested g s z), sound-shape g s z)
 
 -- It refuses exactly with the row that holds: "Each is given when its row holds and not otherwise", "Lowest number wins".
 pub refused-is-row : (s : List ℕ) (r : Refusal) → verdict s ≡ Refused r → Row s r
@@ -73,6 +74,13 @@ units-part = free-or-held
 pub held-are-units : (s : List ℕ) (u : ℕ) → member u (heldUnits s) ≡ true → u < shapeOf s .n
 held-are-units = held-below
 
+-- What is held is just what 01 says, "those in named maps".
+pub held-is-named : (g : Shape) (s : List ℕ) → Sound g s → (u : ℕ) → member u (heldUnits s) ≡ true → (i : ℕ) × (a : ℕ) × NamesUnit g s i a u
+held-is-named = held-named
+
+pub named-is-held : (g : Shape) (s : List ℕ) → Sound g s → (u i a : ℕ) → NamesUnit g s i a u → member u (heldUnits s) ≡ true
+named-is-held = named-held
+
 pub held-once : (g : Shape) (s : List ℕ) → Sound g s → distinct (heldUnits s) ≡ true
 held-once g s z = distinct-held s (sound-tested g s z)
 
@@ -92,6 +100,10 @@ room-for-a-write g s z h =
     rw (← (ap (λ (q : Shape). q .p) e)) (units-free s (rw (e) h))
 
 -- ---- "what is written loads back as what was meant": format
+
+-- Every word of a fresh image before its trailer is X: "X in every entry and every map word".
+pub fresh-is-absent : (g : Shape) (i : ℕ) → i < wordCount g → wordAt (fresh g) i ≡ X
+fresh-is-absent = word-fresh
 
 -- What format writes is sound, loads back as the four numbers, and has every unit and every map free.
 pub format-is-sound : (g : Shape) (s : List ℕ) → formatAnswer g s ≡ Done → Sound g (formatImage g s)

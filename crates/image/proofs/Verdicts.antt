@@ -1,25 +1,22 @@
 -- Laws of rows 4 to 6: which refusal each finding of the scans gives.
 use Prim.Native.Nat.{ℕ, _<_, _≤_}
-use mathlib.Core.Path.{_≡_, refl, ap, sym, _∙_}
-use mathlib.Core.Bool.{Bool, true, false, not, cond}
+use mathlib.Core.Path.{_≡_, ap, sym, _∙_}
+use mathlib.Core.Bool.{true, not}
 use mathlib.Core.List.{List}
 use native.Mathlib.Omega.{arith}
-use lib.ListN.{length}
-use lib.Dec.{ltb}
-use borrow.Author.Tests.{lt-ltb, le-ltb, ltb-false, not-false}
+use borrow.Author.Tests.{lt-ltb, le-ltb, not-false}
 use Rattle.layout.specs.declared.Shape.{Shape}
-use Rattle.layout.specs.declared.Refusal.the-variants.{Short, Foreign, Geometry, BadLink, BadMap, Shared}
+use Rattle.layout.specs.declared.Refusal.the-variants.{BadLink, BadMap, Shared}
 use Rattle.image.specs.declared.Verdict.{Verdict}
 use Rattle.image.specs.declared.Verdict.the-variants.{Refused, Passed}
 use Rattle.image.specs.declared.Loaded.{Loaded}
-use Rattle.layout.specs.Layout.{shapeOf, known, fitting}
+use Rattle.layout.specs.Layout.{shapeOf}
 use Rattle.image.specs.Verdicts.{goodLink, badLink, badMap, doubleClaim, firstClaim, clash, contested, chunkVerdict, verdict}
 use Rattle.image.specs.Claims.{Scanned, Judged}
 use Rattle.image.specs.Loading.{answer, loaded}
 use Rattle.search.proofs.Ranges.{lowest-before, lowest-le}
 use Rattle.layout.specs.declared.Refusal.{Refusal}
-use Rattle.layout.specs.declared.Trailer.{Trailer}
-use Rattle.layout.specs.declared.Trailer.the-variants.{Fits, Fails}
+use Rattle.layout.specs.declared.Trailer.the-variants.{Fits, Refused as TrailerRefused}
 use Rattle.layout.specs.Trailer.{trailerOutcome}
 
 -- chunk numbers as the code has them: i the lowest bad link, k the lowest bad map, j the lowest double claim
@@ -81,39 +78,12 @@ pub first-le : (s : List ℕ) (j : ℕ) → firstClaim s j ≤ j
 unfolding firstClaim
 first-le s j = lowest-le (λ i. clash s i j) j
 
--- ---- rows 1 to 3: what the trailer's outcome says
+-- ---- rows 1 to 3, as the trailer answered them
 
-module _ (s : List ℕ) where
-  -- a trailer that fits: its shape, and the verdict is that of the chunks
-  pub record Fitting (g : Shape) : Type 0 where
-    pub long : 32 ≤ length s
-    pub same : g ≡ shapeOf s
-    pub right : fitting s ≡ true
-    pub rest : verdict s ≡ chunkVerdict s
+pub verdict-refused : (s : List ℕ) (r : Refusal) → trailerOutcome s ≡ TrailerRefused r → verdict s ≡ Refused r
+unfolding verdict
+verdict-refused s r e = rw e
 
-  -- the outcome of the three tests
-  told : Bool → Bool → Bool → Trailer
-  told short wrong bad = cond short (Fails Short) (cond wrong (Fails Foreign) (cond bad (Fails Geometry) (Fits (shapeOf s))))
-
-  as-told : (a b d : Bool) → ltb (length s) 32 ≡ a → not (known s) ≡ b → not (fitting s) ≡ d → (g : Shape) → told a b d ≡ Fits g → Fitting g
-  unfolding verdict told
-  as-told true b d ea eb ed g e = let z : _≡_ {A = ℕ} 0 1 = cc in absurd (omega arith)
-  as-told false true d ea eb ed g e = let z : _≡_ {A = ℕ} 0 1 = cc in absurd (omega arith)
-  as-told false false true ea eb ed g e = let z : _≡_ {A = ℕ} 0 1 = cc in absurd (omega arith)
-  as-told false false false ea eb ed g e =
-      record { long = ltb-false (length s) 32 ea; same = sym cc; right = not-false _ ed; rest = rw (ea, eb, ed) }
-
-  pub outcome-fits : (g : Shape) → trailerOutcome s ≡ Fits g → Fitting g
-  unfolding trailerOutcome told
-  outcome-fits g e = as-told (ltb (length s) 32) (not (known s)) (not (fitting s)) refl refl refl g e
-
-  as-refused : (a b d : Bool) → ltb (length s) 32 ≡ a → not (known s) ≡ b → not (fitting s) ≡ d → (r : Refusal) → told a b d ≡ Fails r → verdict s ≡ Refused r
-  unfolding verdict told
-  as-refused true b d ea eb ed r e = let q : Short ≡ r = cc in rw (ea, q)
-  as-refused false true d ea eb ed r e = let q : Foreign ≡ r = cc in rw (ea, eb, q)
-  as-refused false false true ea eb ed r e = let q : Geometry ≡ r = cc in rw (ea, eb, ed, q)
-  as-refused false false false ea eb ed r e = let z : _≡_ {A = ℕ} 0 1 = cc in absurd (omega arith)
-
-  pub outcome-fails : (r : Refusal) → trailerOutcome s ≡ Fails r → verdict s ≡ Refused r
-  unfolding trailerOutcome told
-  outcome-fails r e = as-refused (ltb (length s) 32) (not (known s)) (not (fitting s)) refl refl refl r e
+pub verdict-fits : (s : List ℕ) (g : Shape) → trailerOutcome s ≡ Fits g → verdict s ≡ chunkVerdict s
+unfolding verdict
+verdict-fits s g e = rw e

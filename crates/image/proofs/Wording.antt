@@ -13,65 +13,66 @@ use Rattle.words.proofs.Numbers.{Bytes}
 use Rattle.search.proofs.Bools.{contradict, and-left, and-right, either, is-false, or-cases}
 use Rattle.search.proofs.Members.{member-place, member-getD}
 use Rattle.search.proofs.Distinct.{distinct-intro, distinct-place, disjoint-intro}
-use Rattle.search.specs.Search.{member, distinct, disjoint}
+use Rattle.search.specs.Search.{below, member, distinct, disjoint}
+use Rattle.search.proofs.Ranges.{any-below, any-below-intro}
+use Rattle.search.proofs.Joined.{member-joined}
+use Rattle.image.specs.Free.{heldUnits}
 use Rattle.layout.specs.declared.Shape.{Shape}
-use Rattle.layout.specs.Layout.{isUnit, unitWords, trailerStart, trailerOf, trailerAt, mapWords, shapeOf, known, fitting, linkOf, wordsOf}
+use Rattle.layout.specs.Layout.{isUnit, trailerStart, trailerOf, trailerAt, shapeOf, known, fitting, linkOf}
 use Rattle.layout.proofs.Limits.{limits-hold, fitting-limits, fitting-length, absent-no-unit}
 use Rattle.layout.proofs.Told.{shape-told, known-told, fitting-told, ends-in-trailer}
-use Rattle.image.specs.Soundness.{mapped, unitsOf, leading, Named, namedWord, Sound}
+use Rattle.image.specs.Soundness.{mapped, namedWords, unitsOf, leading, NamesUnit, Sound}
 use Rattle.image.specs.Verdicts.{clash}
 use Rattle.image.specs.Claims.{Tested, heldIn}
 use Rattle.image.proofs.Leading.{form-of, well-formed, leading-at, length-leading}
-use Rattle.image.proofs.Chunks.{length-wordsOf, getD-wordsOf, absent-link, absent-map, is-mapped, named-link, named-map, named-below, mapped-named, unmapped-absent, units-mapped, mapped-of-unit, owner, map-owner}
+use Rattle.image.proofs.Chunks.{absent-link, absent-map, is-mapped, named-link, named-map, named-below, mapped-named, unmapped-absent, units-mapped, mapped-of-unit, owner, map-owner}
 
 -- unit a of a mapped chunk is word a of its map
-unit-at : (s : List ℕ) (i a : ℕ) → mapped s i ≡ true → a < length (unitsOf s i)
-    → (a < mapWords (shapeOf s)) × (getD (unitsOf s i) a 0 ≡ namedWord (shapeOf s) s i a) × (isUnit (shapeOf s) (namedWord (shapeOf s) s i a) ≡ true)
-unit-at s i a m h =
+unit-at : (s : List ℕ) (i a : ℕ) → i < shapeOf s .c → mapped s i ≡ true → a < length (unitsOf s i)
+    → NamesUnit (shapeOf s) s i a (getD (unitsOf s i) a 0)
+unit-at s i a c m h =
     let g = shapeOf s in
-    let ws = wordsOf g s (linkOf s i) in
+    let ws = namedWords g s i in
     let e = units-mapped s i m in
     let l : a < length (leading (isUnit g) ws) = let q = ap length e in omega arith in
     let r = leading-at (isUnit g) ws a l in
-    let p : a < mapWords g = let q = length-wordsOf g s (linkOf s i) in let o = length-leading (isUnit g) ws in omega arith in
-    let w : getD ws a 0 ≡ namedWord g s i a = getD-wordsOf g s (linkOf s i) a p in
-    (p, ap (λ (us : List ℕ). getD us a 0) e ∙ r .0 ∙ w, ap (isUnit g) (sym w) ∙ r .1)
+    let same : getD (unitsOf s i) a 0 ≡ getD ws a 0 = ap (λ (us : List ℕ). getD us a 0) e ∙ r .0 in
+    record {
+      chunk = c;
+      named = mapped-named s i m;
+      place = omega (arith, length-leading (isUnit g) ws);
+      word = sym same;
+      unit = ap (isUnit g) same ∙ r .1;
+    }
 
 -- ---- from the tests to the words
 
 module _ (s : List ℕ) (z : Tested s) where
   -- a word of a named map that is a unit is one of the chunk's units
-  word-unit : (i a : ℕ) → i < shapeOf s .c → Named s i → a < mapWords (shapeOf s) → isUnit (shapeOf s) (namedWord (shapeOf s) s i a) ≡ true
-      → a < length (unitsOf s i)
-  word-unit i a h m p u =
+  unit-place : (u i a : ℕ) → NamesUnit (shapeOf s) s i a u → (a < length (unitsOf s i)) × (getD (unitsOf s i) a 0 ≡ u)
+  unit-place u i a n =
       let g = shapeOf s in
-      let ws = wordsOf g s (linkOf s i) in
-      let f = form-of (isUnit g) ws (sym (named-map s i m) ∙ z .maps i h) in
-      let e = ap length (units-mapped s i (is-mapped s i m)) in
-      let w = getD-wordsOf g s (linkOf s i) a p in
-      let l = length-wordsOf g s (linkOf s i) in
-      ⊎-elim (λ t. ltb-true a (length (unitsOf s i)) t)
-      (λ t. let o = ltb-false a (length (unitsOf s i)) t in
-      let x = f .rest a (omega arith) (omega arith) in
-      contradict (ap (isUnit g) (sym x ∙ w) ∙ u) (absent-no-unit g (fitting-limits s (z .fitting))))
-      (either (ltb a (length (unitsOf s i))))
+      let ws = namedWords g s i in
+      let f = form-of (isUnit g) ws (sym (named-map s i (n .named)) ∙ z .maps i (n .chunk)) in
+      let e = units-mapped s i (is-mapped s i (n .named)) in
+      let k = length (leading (isUnit g) ws) in
+      let l : a < k =
+      ⊎-elim (λ t. ltb-true a k t)
+      (λ t. let x = f .rest a (ltb-false a k t) (n .place) in
+      contradict (ap (isUnit g) (sym x ∙ n .word) ∙ n .unit) (absent-no-unit g (fitting-limits s (z .fitting))))
+      (either (ltb a k)) in
+      (let q = ap length e in omega arith, ap (λ (us : List ℕ). getD us a 0) e ∙ leading-at (isUnit g) ws a l .0 ∙ n .word)
 
-  once : (i j a b : ℕ) → i < shapeOf s .c → j < shapeOf s .c → Named s i → Named s j → a < mapWords (shapeOf s) → b < mapWords (shapeOf s)
-      → isUnit (shapeOf s) (namedWord (shapeOf s) s i a) ≡ true
-      → namedWord (shapeOf s) s i a ≡ namedWord (shapeOf s) s j b
-      → (i ≡ j) × (a ≡ b)
-  once i j a b hi hj xi xj ha hb u e =
-      let la = word-unit i a hi xi ha u in
-      let lb = word-unit j b hj xj hb (ap (isUnit (shapeOf s)) (sym e) ∙ u) in
-      let ua = unit-at s i a (is-mapped s i xi) la in
-      let ub = unit-at s j b (is-mapped s j xj) lb in
-      let same : getD (unitsOf s i) a 0 ≡ getD (unitsOf s j) b 0 = ua .1 ∙ e ∙ sym (ub .1) in
+  once : (u i j a b : ℕ) → NamesUnit (shapeOf s) s i a u → NamesUnit (shapeOf s) s j b u → (i ≡ j) × (a ≡ b)
+  once u i j a b n m =
+      let pa = unit-place u i a n in
+      let pb = unit-place u j b m in
       let q : i ≡ j =
-      owner s z (getD (unitsOf s i) a 0) i j hi hj (member-getD (unitsOf s i) a la)
-      (ap (λ (v : ℕ). member v (unitsOf s j)) same ∙ member-getD (unitsOf s j) b lb) in
+      owner s z u i j (n .chunk) (m .chunk) (ap (λ (v : ℕ). member v (unitsOf s i)) (sym (pa .1)) ∙ member-getD (unitsOf s i) a (pa .0))
+      (ap (λ (v : ℕ). member v (unitsOf s j)) (sym (pb .1)) ∙ member-getD (unitsOf s j) b (pb .0)) in
       let back : unitsOf s j ≡ unitsOf s i = ap (unitsOf s) (sym q) in
-      let lb' : b < length (unitsOf s i) = let o = ap length back in omega arith in
-      (q, distinct-place (unitsOf s i) (z .single i hi) a b la lb' (same ∙ ap (λ (us : List ℕ). getD us b 0) back))
+      let lb : b < length (unitsOf s i) = let o = ap length back in omega (arith, pb .0) in
+      (q, distinct-place (unitsOf s i) (z .single i (n .chunk)) a b (pa .0) lb (pa .1 ∙ sym (pb .1) ∙ ap (λ (us : List ℕ). getD us b 0) back))
 
   -- of a list of bytes, as every lent image is
   pub tested-sound : Bytes s → Sound (shapeOf s) s
@@ -84,23 +85,13 @@ module _ (s : List ℕ) (z : Tested s) where
         trailer = let e : trailerStart g ≡ trailerAt s = omega arith in ap (λ (k : ℕ). drop k s) e ∙ ends-in-trailer s b (z .long) (z .known) (z .fitting);
         entries = λ i h m. named-below s i m (z .links i h);
         maps = λ i j h l m e. map-owner s z i j h l (is-mapped s i m) (is-mapped s j (λ x. m (e ∙ x))) e;
-        forms = λ i h m.
-            (length (heldIn s (linkOf s i)), form-of (isUnit g) (unitWords g (wordsOf g s (linkOf s i))) (sym (named-map s i m) ∙ z .maps i h));
+        forms = λ i h m. (length (heldIn s (linkOf s i)), form-of (isUnit g) (namedWords g s i) (sym (named-map s i m) ∙ z .maps i h));
         units = once;
       }
 
 -- ---- and from the words to the tests
 
 module _ (s : List ℕ) (w : Sound (shapeOf s) s) where
-  unit-once : (i j a b : ℕ) → i < shapeOf s .c → j < shapeOf s .c → mapped s i ≡ true → mapped s j ≡ true → a < length (unitsOf s i)
-      → b < length (unitsOf s j)
-      → getD (unitsOf s i) a 0 ≡ getD (unitsOf s j) b 0
-      → (i ≡ j) × (a ≡ b)
-  unit-once i j a b hi hj mi mj la lb e =
-      let ua = unit-at s i a mi la in
-      let ub = unit-at s j b mj lb in
-      w .units i j a b hi hj (mapped-named s i mi) (mapped-named s j mj) (ua .0) (ub .0) (ua .2) (sym (ua .1) ∙ e ∙ ub .1)
-
   sound-apart : (i j : ℕ) → i < j → j < shapeOf s .c → clash s i j ≡ false
   unfolding clash
   sound-apart i j h l = is-false (clash s i j) (λ e.
@@ -112,14 +103,17 @@ module _ (s : List ℕ) (w : Sound (shapeOf s) s) where
       (λ q. contradict (disjoint-intro (unitsOf s i) (unitsOf s j) (λ u m. is-false (member u (unitsOf s j)) (λ k.
       let a = member-place u (unitsOf s i) m in
       let b = member-place u (unitsOf s j) k in
-      let r = unit-once i j (a .0) (b .0) (omega arith) l mi mj (a .1) (b .1) (a .2 ∙ sym (b .2)) in
+      let n = rw (a .2) at (unit-at s i (a .0) (omega arith) mi (a .1)) in
+      let o = rw (b .2) at (unit-at s j (b .0) l mj (b .1)) in
+      let r = w .units u i j (a .0) (b .0) n o in
       omega (arith, r .0)))) (not-true (disjoint (unitsOf s i) (unitsOf s j)) q))
       (or-cases (eqb (linkOf s i) (linkOf s j)) (not (disjoint (unitsOf s i) (unitsOf s j))) (and-right (mapped s i && mapped s j) _ e)))
 
   sound-single : (i : ℕ) → i < shapeOf s .c → distinct (unitsOf s i) ≡ true
   sound-single i h = distinct-intro (unitsOf s i) (λ a b l k e.
       let m = mapped-of-unit s (getD (unitsOf s i) b 0) i (member-getD (unitsOf s i) b k) in
-      let r = unit-once i i a b h h m m (omega arith) k e in
+      let n = rw e at (unit-at s i a h m (omega arith)) in
+      let r = w .units (getD (unitsOf s i) b 0) i i a b n (unit-at s i b h m k) in
       omega (arith, r .1))
 
   told-tested : known s ≡ true → fitting s ≡ true → Tested s
@@ -138,7 +132,7 @@ module _ (s : List ℕ) (w : Sound (shapeOf s) s) where
             ⊎-elim
             (λ m. let e = mapped-named s i m in
             let f = w .forms i h e in
-            named-map s i e ∙ well-formed (isUnit g) (f .0) (unitWords g (wordsOf g s (linkOf s i))) (absent-no-unit g (w .limits)) (f .1))
+            named-map s i e ∙ well-formed (isUnit g) (f .0) (namedWords g s i) (absent-no-unit g (w .limits)) (f .1))
             (λ m. absent-map s i (unmapped-absent s i m))
             (either (mapped s i));
         apart = sound-apart;
@@ -163,3 +157,22 @@ module _ (g : Shape) (s : List ℕ) (w : Sound g s) where
   sound-tested =
       let l = limits-hold g (w .limits) in
       told-tested s (subst (λ (h : Shape). Sound h s) (sym sound-shape) w) (ap known ends ∙ known-told front g full l) (ap fitting ends ∙ fitting-told front g full l)
+
+-- ---- what a sound image holds, in its own words
+
+pub held-named : (g : Shape) (s : List ℕ) → Sound g s → (u : ℕ) → member u (heldUnits s) ≡ true → (i : ℕ) × (a : ℕ) × NamesUnit g s i a u
+unfolding heldUnits
+held-named g s w u m =
+    let r = any-below (λ i. member u (unitsOf s i)) (shapeOf s .c) (sym (member-joined (unitsOf s) u (below (shapeOf s .c))) ∙ m) in
+    let p = member-place u (unitsOf s (r .0)) (r .2) in
+    let n = unit-at s (r .0) (p .0) (r .1) (mapped-of-unit s u (r .0) (r .2)) (p .1) in
+    (r .0, p .0, subst (λ (h : Shape). NamesUnit h s (r .0) (p .0) u) (sound-shape g s w) (subst (NamesUnit (shapeOf s) s (r .0) (p .0)) (p .2) n))
+
+pub named-held : (g : Shape) (s : List ℕ) → Sound g s → (u i a : ℕ) → NamesUnit g s i a u → member u (heldUnits s) ≡ true
+unfolding heldUnits
+named-held g s w u i a n =
+    let m : NamesUnit (shapeOf s) s i a u = subst (λ (h : Shape). NamesUnit h s i a u) (sym (sound-shape g s w)) n in
+    let p = unit-place s (sound-tested g s w) u i a m in
+    member-joined (unitsOf s) u (below (shapeOf s .c))
+    ∙ any-below-intro (λ j. member u (unitsOf s j)) (shapeOf s .c) i (m .chunk)
+    (ap (λ (v : ℕ). member v (unitsOf s i)) (sym (p .1)) ∙ member-getD (unitsOf s i) a (p .0))

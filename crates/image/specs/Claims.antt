@@ -50,7 +50,7 @@ pub record Claimed (s : List ℕ) (j : ℕ) (ok : Bool) (units maps : List ℕ) 
   pub units-left : ok ≡ true → units ≡ bitSet (unheld s (j + 1)) unitSetWords
   pub maps-left : ok ≡ true → maps ≡ bitSet (unnamed s (j + 1)) mapSetWords
 
--- the scan stopped at the lowest chunk that claims a map or unit twice, or went through all C with what is free
+-- the scan stopped at the lowest chunk that claims what a lower one has claimed or one unit twice, or went through all C with what is free
 pub record Scanned (s : List ℕ) (at : ℕ) (units maps : List ℕ) : Type 0 where
   pub right : at ≡ doubleClaim s
   pub units-left : (at ≡ shapeOf s .c → units ≡ bitSet (freeUnit s) unitSetWords)

@@ -16,16 +16,16 @@ abbrev pub LowestOf : (ℕ → Bool) → ℕ → ℕ → Type 0
 LowestOf f n i = (i < n) × (f i ≡ true) × ((j : ℕ) → j < i → f j ≡ false)
 
 -- none of rows 1 to 3 holds
-abbrev pub Trailed : List ℕ → Type 0
-Trailed s = (trailerBytes ≤ length s) × (known s ≡ true) × (fitting s ≡ true)
+abbrev pub PastRow3 : List ℕ → Type 0
+PastRow3 s = (trailerBytes ≤ length s) × (known s ≡ true) × (fitting s ≡ true)
 
 -- nor row 4
-abbrev pub Linked : List ℕ → Type 0
-Linked s = Trailed s × ((i : ℕ) → i < shapeOf s .c → goodLink s i ≡ true)
+abbrev pub PastRow4 : List ℕ → Type 0
+PastRow4 s = PastRow3 s × ((i : ℕ) → i < shapeOf s .c → goodLink s i ≡ true)
 
 -- nor row 5
-abbrev pub Formed : List ℕ → Type 0
-Formed s = Linked s × ((i : ℕ) → i < shapeOf s .c → goodMap s i ≡ true)
+abbrev pub PastRow5 : List ℕ → Type 0
+PastRow5 s = PastRow4 s × ((i : ℕ) → i < shapeOf s .c → goodMap s i ≡ true)
 
 -- the row of a refusal holds of an image, at the refusal's place, and none before it
 abbrev pub Row : List ℕ → Refusal → Type 0
@@ -36,13 +36,13 @@ Row s Foreign = (trailerBytes ≤ length s) × (known s ≡ false)
 -- 3 "a limit broken, or a distance or length that disagrees"
 Row s Geometry = (trailerBytes ≤ length s) × (known s ≡ true) × (fitting s ≡ false)
 -- 4 "entry neither X nor below M", "lowest such chunk"
-Row s (BadLink i) = Trailed s × LowestOf (λ j. not (goodLink s j)) (shapeOf s .c) i
+Row s (BadLink i) = PastRow3 s × LowestOf (λ j. not (goodLink s j)) (shapeOf s .c) i
 -- 5 "a named map of the wrong form", "lowest such chunk"
-Row s (BadMap i) = Linked s × LowestOf (λ j. not (goodMap s j)) (shapeOf s .c) i
+Row s (BadMap i) = PastRow4 s × LowestOf (λ j. not (goodMap s j)) (shapeOf s .c) i
 -- 6 "a map or unit claimed twice": "the second chunk is the lowest that claims a map or unit of a lower chunk, or one unit twice. The first chunk is the
 -- lowest one it clashes with, or itself if none is lower."
 Row s (Shared i j) =
-    Formed s × LowestOf (contested s) (shapeOf s .c) j × (LowestOf (λ k. clash s k j) j i ⊎ ((i ≡ j) × ((k : ℕ) → k < j → clash s k j ≡ false)))
+    PastRow5 s × LowestOf (contested s) (shapeOf s .c) j × (LowestOf (λ k. clash s k j) j i ⊎ ((i ≡ j) × ((k : ℕ) → k < j → clash s k j ≡ false)))
 -- no other refusal is the image's own
 Row s Range = ⊥
 Row s Size = ⊥

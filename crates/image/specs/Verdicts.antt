@@ -5,11 +5,14 @@ use mathlib.Core.List.{List}
 use lib.ListN.{length, drop}
 use lib.Dec.{eqb, ltb, leb}
 use Rattle.search.specs.Search.{below, all, any, distinct, disjoint, lowest}
-use Rattle.layout.specs.declared.Refusal.the-variants.{Short, Foreign, Geometry, BadLink, BadMap, Shared}
-use Rattle.layout.specs.Layout.{X, isUnit, unitWords, trailerBytes, shapeOf, known, fitting, linkOf, wordsOf}
+use Rattle.layout.specs.declared.Refusal.the-variants.{BadLink, BadMap, Shared}
+use Rattle.layout.specs.declared.Trailer.{Trailer}
+use Rattle.layout.specs.declared.Trailer.the-variants.{Fits, Refused as TrailerRefused}
+use Rattle.layout.specs.Trailer.{trailerOutcome}
+use Rattle.layout.specs.Layout.{X, isUnit, shapeOf, linkOf}
 use Rattle.image.specs.declared.Verdict.{Verdict}
 use Rattle.image.specs.declared.Verdict.the-variants.{Refused, Passed}
-use Rattle.image.specs.Soundness.{leading, mapped, unitsOf}
+use Rattle.image.specs.Soundness.{leading, mapped, namedWords, unitsOf}
 
 -- ---- row 4: "entry neither X nor below M", "lowest such chunk"
 
@@ -27,7 +30,7 @@ unfoldable pub wellFormed : (ℕ → Bool) → List ℕ → Bool
 wellFormed f ws = let k = length (leading f ws) in leb 1 k && all (eqb X) (drop k ws)
 
 abbrev pub goodMap : List ℕ → ℕ → Bool
-goodMap s i = let g = shapeOf s in not (mapped s i) || wellFormed (isUnit g) (unitWords g (wordsOf g s (linkOf s i)))
+goodMap s i = let g = shapeOf s in not (mapped s i) || wellFormed (isUnit g) (namedWords g s i)
 
 unfoldable pub badMap : List ℕ → ℕ
 badMap s = lowest (λ i. not (goodMap s i)) (shapeOf s .c)
@@ -38,7 +41,7 @@ badMap s = lowest (λ i. not (goodMap s i)) (shapeOf s .c)
 unfoldable pub clash : List ℕ → ℕ → ℕ → Bool
 clash s i j = mapped s i && mapped s j && (eqb (linkOf s i) (linkOf s j) || not (disjoint (unitsOf s i) (unitsOf s j)))
 
--- chunk j "claims a map or unit of a lower chunk, or one unit twice"
+-- chunk j "claims a map or unit of a lower chunk, or one unit twice": the scan takes out what each chunk claims, and j finds something gone
 unfoldable pub contested : List ℕ → ℕ → Bool
 contested s j = any (λ i. clash s i j) (below j) || not (distinct (unitsOf s j))
 
@@ -61,8 +64,11 @@ chunkVerdict s =
     let maps = cond (ltb (badMap s) c) (Refused (BadMap (badMap s))) sharing in
     cond (ltb (badLink s) c) (Refused (BadLink (badLink s))) maps
 
--- rows 1 to 6: 1 "image under 32 bytes", 2 "first four trailer bytes or version wrong", 3 "a limit broken, or a distance or length that disagrees"
+-- a trailer that is refused, or what is said of the rest
+abbrev pub afterTrailer : Trailer → Verdict → Verdict
+afterTrailer (Fits g) v = v
+afterTrailer (TrailerRefused r) v = Refused r
+
+-- rows 1 to 6
 unfoldable pub verdict : List ℕ → Verdict
-verdict s =
-    cond (ltb (length s) trailerBytes) (Refused Short)
-    (cond (not (known s)) (Refused Foreign) (cond (not (fitting s)) (Refused Geometry) (chunkVerdict s)))
+verdict s = afterTrailer (trailerOutcome s) (chunkVerdict s)

@@ -1,5 +1,5 @@
 // The scan for maps and units claimed twice, which also finds what is free.
-use crate::maps::held;
+use crate::maps::held_count;
 use crate::maps::link;
 use crate::maps::map_word;
 use bitset::contains;
@@ -9,14 +9,13 @@ use layout::ABSENT;
 use layout::Shape;
 ghost use mathlib.Core.Path.{_≡_};
 ghost use mathlib.Core.Bool.{Bool, true};
-ghost use Prim.Native.Nat.{ℕ, _<_, _≤_};
+ghost use Prim.Native.Nat.{ℕ, _<_};
 ghost use lib.ListN.{length};
 ghost use Rattle.image.specs.Verdicts.{goodLink};
 ghost use Rattle.bitset.specs.Bits.{bitSet};
 ghost use Rattle.layout.specs.Shaped.{Shaped};
-ghost use Rattle.image.specs.Claims.{heldIn};
 ghost use Rattle.image.specs.Loading.{unitSetWords, mapSetWords};
-ghost use Rattle.image.specs.Claims.{unheld, unnamed, TakenOut, Claimed, Scanned};
+ghost use Rattle.image.specs.Claims.{heldIn, unheld, unnamed, TakenOut, Claimed, Scanned};
 
 // Takes the units of map k, `count` of them, out of a set: false at the first that is not in it.
 fn claim_units(image: &[u8], g: Shape, k: usize, count: usize, units: &mut [u64]) -> bool
@@ -52,15 +51,20 @@ fn claim(image: &[u8], g: Shape, j: usize, units: &mut [u64], maps: &mut [u64]) 
     let k = w as usize;
     if contains(maps, w) {
         remove(maps, k);
-        let count = held(image, g, k);
+        let count = held_count(image, g, k);
         return claim_units(image, g, k, count, units);
     }
     false
 }
 
-// Takes the maps and units of the chunks out of the full sets, chunk after chunk: the lowest chunk that claims a map or unit twice, or C, and then
-// the sets hold what is free.
-pub fn double_claim(image: &[u8], g: Shape, units: &mut [u64], maps: &mut [u64]) -> usize
+// Takes the maps and units of the chunks out of the full sets, chunk after chunk: the lowest chunk that claims what a lower one has claimed, or one unit
+// twice; or C, and then the sets hold what is free.
+pub(crate) fn first_double_claim(
+    image: &[u8],
+    g: Shape,
+    units: &mut [u64],
+    maps: &mut [u64],
+) -> usize
     requires { ⌜ Shaped (now image) g ⌝ }
     requires { ⌜ ((i : ℕ) → i < g .c → goodLink (now image) i ≡ true) ⌝ }
     requires { ⌜ (length (now units) ≡ unitSetWords) × (length (now maps) ≡ mapSetWords) ⌝ }

@@ -1,14 +1,14 @@
 // Which lower chunk a chunk that claims something twice clashes with. Only a refusal comes here.
-use crate::maps::held;
+use crate::maps::held_count;
 use crate::maps::link;
 use crate::maps::map_word;
 use layout::ABSENT;
 use layout::Shape;
 ghost use mathlib.Core.Path.{_≡_};
 ghost use mathlib.Core.Bool.{true, not};
-ghost use Prim.Native.Nat.{ℕ, _<_, _≤_};
+ghost use Prim.Native.Nat.{ℕ, _<_};
 ghost use lib.ListN.{length};
-ghost use Rattle.search.specs.Search.{any, member, disjoint};
+ghost use Rattle.search.specs.Search.{member, disjoint};
 ghost use Rattle.image.specs.Verdicts.{goodLink, clash, firstClaim};
 ghost use Rattle.layout.specs.Shaped.{Shaped};
 ghost use Rattle.image.specs.Claims.{heldIn};
@@ -30,13 +30,13 @@ fn holds(image: &[u8], g: Shape, k: usize, count: usize, u: u64) -> bool
 }
 
 // Whether maps k and h hold a unit in common.
-fn meet(image: &[u8], g: Shape, k: usize, h: usize) -> bool
+fn share_unit(image: &[u8], g: Shape, k: usize, h: usize) -> bool
     requires { ⌜ Shaped (now image) g ⌝ }
     requires { ⌜ (k < g .m) × (h < g .m) ⌝ }
     ensures { λ r. ⌜ r ≡ not (disjoint (heldIn (now (image .entry)) k) (heldIn (now (image .entry)) h)) ⌝ }
 {
-    let count = held(image, g, k);
-    let end = held(image, g, h);
+    let count = held_count(image, g, k);
+    let end = held_count(image, g, h);
     let mut i: usize = 0;
     while i < end {
         if holds(image, g, k, count, map_word(image, g, h, i)) {
@@ -65,11 +65,11 @@ fn clashes(image: &[u8], g: Shape, i: usize, j: usize) -> bool
     if v == w {
         return true;
     }
-    meet(image, g, v as usize, w as usize)
+    share_unit(image, g, v as usize, w as usize)
 }
 
 // The lowest chunk that chunk j clashes with, or j itself.
-pub fn first_claim(image: &[u8], g: Shape, j: usize) -> usize
+pub(crate) fn first_claim(image: &[u8], g: Shape, j: usize) -> usize
     requires { ⌜ Shaped (now image) g ⌝ }
     requires { ⌜ ((i : ℕ) → i < g .c → goodLink (now image) i ≡ true) ⌝ }
     requires { ⌜ j < g .c ⌝ }

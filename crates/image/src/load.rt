@@ -3,10 +3,10 @@ use crate::Loaded;
 use crate::MAP_SET_WORDS;
 use crate::UNIT_SET_WORDS;
 use crate::Verdict;
-use crate::claims::double_claim;
+use crate::claims::first_double_claim;
 use crate::clashes::first_claim;
-use crate::scan::bad_link;
-use crate::scan::bad_map;
+use crate::scan::first_bad_link;
+use crate::scan::first_bad_map;
 use layout::Refusal;
 use layout::Shape;
 use layout::Trailer;
@@ -43,15 +43,15 @@ fn judge(image: &[u8], g: Shape, units: &mut [u64], maps: &mut [u64]) -> Verdict
     ensures { λ r. ⌜ Judged (now (image .entry)) r (now (units .exit)) (now (maps .exit)) ⌝ }
 {
     let c = g.c as usize;
-    let i = bad_link(image, g);
+    let i = first_bad_link(image, g);
     if i < c {
         return Verdict::Refused(Refusal::BadLink(i as u32));
     }
-    let k = bad_map(image, g);
+    let k = first_bad_map(image, g);
     if k < c {
         return Verdict::Refused(Refusal::BadMap(k as u32));
     }
-    let j = double_claim(image, g, units, maps);
+    let j = first_double_claim(image, g, units, maps);
     if j < c {
         let first = first_claim(image, g, j);
         return Verdict::Refused(Refusal::Shared(first as u32, j as u32));
@@ -79,6 +79,6 @@ pub fn load(image: &[u8]) -> Loaded
                 Verdict::Refused(r) => refused(r),
             }
         }
-        Trailer::Fails(r) => refused(r),
+        Trailer::Refused(r) => refused(r),
     }
 }

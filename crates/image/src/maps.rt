@@ -20,7 +20,7 @@ pub fn link(image: &[u8], g: Shape, i: usize) -> u64
 }
 
 // Word j of map k.
-pub fn map_word(image: &[u8], g: Shape, k: usize, j: usize) -> u64
+pub(crate) fn map_word(image: &[u8], g: Shape, k: usize, j: usize) -> u64
     requires { ⌜ Shaped (now image) g ⌝ }
     requires { ⌜ (k < g .m) × (j < g .p) ⌝ }
     ensures { λ r. ⌜ r ≡ getD (mapOf (now (image .entry)) k) j 0 ⌝ }
@@ -31,7 +31,7 @@ pub fn map_word(image: &[u8], g: Shape, k: usize, j: usize) -> u64
 }
 
 // How many units map k holds: its words before the first that is no unit.
-pub fn held(image: &[u8], g: Shape, k: usize) -> usize
+pub fn held_count(image: &[u8], g: Shape, k: usize) -> usize
     requires { ⌜ Shaped (now image) g ⌝ }
     requires { ⌜ k < g .m ⌝ }
     ensures { λ r. ⌜ r ≡ length (heldIn (now (image .entry)) k) ⌝ }
@@ -49,7 +49,7 @@ pub fn held(image: &[u8], g: Shape, k: usize) -> usize
 }
 
 // Whether map k holds only X from word `start` on.
-pub fn absent_from(image: &[u8], g: Shape, k: usize, start: usize) -> bool
+pub(crate) fn absent_from(image: &[u8], g: Shape, k: usize, start: usize) -> bool
     requires { ⌜ Shaped (now image) g ⌝ }
     requires { ⌜ (k < g .m) × (start ≤ g .p) ⌝ }
     ensures { λ r. ⌜ r ≡ all (eqb X) (drop start (mapOf (now (image .entry)) k)) ⌝ }

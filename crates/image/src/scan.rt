@@ -1,12 +1,12 @@
 // The loader's scans over the chunks of an image whose shape is known.
 use crate::maps::absent_from;
-use crate::maps::held;
+use crate::maps::held_count;
 use crate::maps::link;
 use layout::ABSENT;
 use layout::Shape;
 ghost use mathlib.Core.Path.{_≡_};
 ghost use mathlib.Core.Bool.{true};
-ghost use Prim.Native.Nat.{ℕ, _<_, _≤_};
+ghost use Prim.Native.Nat.{ℕ, _<_};
 ghost use Rattle.image.specs.Verdicts.{goodLink, goodMap, badLink, badMap};
 ghost use Rattle.layout.specs.Shaped.{Shaped};
 
@@ -25,7 +25,7 @@ fn good_link(image: &[u8], g: Shape, i: usize) -> bool
 }
 
 // The lowest chunk whose entry is neither X nor below M, or C.
-pub fn bad_link(image: &[u8], g: Shape) -> usize
+pub(crate) fn first_bad_link(image: &[u8], g: Shape) -> usize
     requires { ⌜ Shaped (now image) g ⌝ }
     ensures { λ r. ⌜ r ≡ badLink (now (image .entry)) ⌝ }
 {
@@ -52,7 +52,7 @@ fn good_map(image: &[u8], g: Shape, i: usize) -> bool
         return true;
     }
     let k = w as usize;
-    let h = held(image, g, k);
+    let h = held_count(image, g, k);
     if h == 0 {
         return false;
     }
@@ -60,7 +60,7 @@ fn good_map(image: &[u8], g: Shape, i: usize) -> bool
 }
 
 // The lowest chunk whose named map has the wrong form, or C.
-pub fn bad_map(image: &[u8], g: Shape) -> usize
+pub(crate) fn first_bad_map(image: &[u8], g: Shape) -> usize
     requires { ⌜ Shaped (now image) g ⌝ }
     requires { ⌜ ((i : ℕ) → i < g .c → goodLink (now image) i ≡ true) ⌝ }
     ensures { λ r. ⌜ r ≡ badMap (now (image .entry)) ⌝ }

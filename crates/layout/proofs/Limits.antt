@@ -1,16 +1,20 @@
 -- What the limits of a shape say of its numbers, and the sizes that follow.
 use Prim.Native.Nat.{ℕ, _+_, _*_, _≤_, _<_}
-use mathlib.Core.Path.{_≡_, sym, ap, subst, _∙_}
-use mathlib.Core.Bool.{true, false}
+use mathlib.Core.Path.{_≡_, refl, sym, ap, subst, _∙_}
+use mathlib.Core.Bool.{Bool, true, false, not, cond}
 use mathlib.Core.List.{List}
 use lib.ListN.{length}
 use native.Mathlib.Nat.{mul-le-mul, mul-le-mul-right, mul-comm}
 use native.Mathlib.Omega.{arith}
 use borrow.Author.Needs.{needs}
-use borrow.Author.Tests.{le-leb, lt-leb, le-ltb, lt-ltb, eq-eqb, ne-eqb, leb-true, ltb-true, eqb-true}
+use borrow.Author.Tests.{le-leb, lt-leb, le-ltb, lt-ltb, eq-eqb, ne-eqb, leb-true, ltb-true, ltb-false, eqb-true}
 use Rattle.layout.specs.declared.Shape.{Shape}
-use Rattle.layout.specs.Layout.{X, isUnit, withinLimits, agreeing, fitting, shapeOf, imageBytes}
+use Rattle.layout.specs.Layout.{X, isUnit, trailerBytes, withinLimits, agreeing, known, fitting, shapeOf, imageBytes}
+use Rattle.layout.specs.declared.Refusal.the-variants.{Short, Foreign, Geometry}
+use Rattle.layout.specs.declared.Trailer.the-variants.{Fits, Refused}
+use Rattle.layout.specs.Trailer.{trailerOutcome}
 use Rattle.layout.specs.Shaped.{Limits, Shaped, On}
+use lib.Dec.{ltb}
 use Rattle.search.proofs.Bools.{and-left, and-right, and-intro, is-false}
 
 -- The needs, with the laws that give a test of numbers its value: at a return, `search tests` settles a definition that goes by tests from what
@@ -89,3 +93,20 @@ unit-below g u = ltb-true u (g .n)
 
 pub absent-no-unit : (g : Shape) → Limits g → isUnit g X ≡ false
 absent-no-unit g l = let n = units-high g l in le-ltb X (g .n) (omega arith)
+
+-- ---- rows 1 to 3: an image whose trailer fits
+
+pub fits-on : (s : List ℕ) (g : Shape) → trailerOutcome s ≡ Fits g → On g s
+unfolding trailerOutcome
+fits-on s g e = go (ltb (length s) trailerBytes) (known s) (fitting s) refl refl refl e
+  where
+    go : (a b d : Bool) → ltb (length s) trailerBytes ≡ a → known s ≡ b → fitting s ≡ d
+        → cond a (Refused Short) (cond (not b) (Refused Foreign) (cond (not d) (Refused Geometry) (Fits (shapeOf s)))) ≡ Fits g → On g s
+    go true b d ea eb ed h = let z : _≡_ {A = ℕ} 0 1 = cc in absurd (omega arith)
+    go false false d ea eb ed h = let z : _≡_ {A = ℕ} 0 1 = cc in absurd (omega arith)
+    go false true false ea eb ed h = let z : _≡_ {A = ℕ} 0 1 = cc in absurd (omega arith)
+    go false true true ea eb ed h = record { long = ltb-false (length s) trailerBytes ea; shape = cc; known = eb; fitting = ed }
+
+pub on-fits : (s : List ℕ) → trailerBytes ≤ length s → known s ≡ true → fitting s ≡ true → trailerOutcome s ≡ Fits (shapeOf s)
+unfolding trailerOutcome
+on-fits s l k f = rw (le-ltb (length s) trailerBytes l, k, f)

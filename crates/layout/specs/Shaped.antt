@@ -1,4 +1,5 @@
--- What is known of an image once its trailer has passed, as facts: what the functions on images ask of their callers.
+-- The limits as facts (`Limits`, to read), and what is known of an image once its trailer has passed: what the inner functions on images ask of their
+-- callers.
 use Prim.Native.Nat.{ℕ, _+_, _*_, _≤_}
 use mathlib.Core.Path.{_≡_}
 use mathlib.Core.Bool.{true}
@@ -24,7 +25,7 @@ pub record Shaped (s : List ℕ) (g : Shape) : Type 0 where
   pub limits : Limits g
   pub size : length s ≡ imageBytes g
 
--- s is an image of shape g whose trailer passes: what every store of a word leaves so
+-- s is an image of shape g whose trailer passes; a store of a word keeps that
 pub record On (g : Shape) (s : List ℕ) : Type 0 where
   pub long : trailerBytes ≤ length s
   pub shape : shapeOf s ≡ g

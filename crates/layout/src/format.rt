@@ -1,14 +1,20 @@
 // Format: the image of a fresh volume.
+use crate::CHUNK_UNITS_AT;
+use crate::CHUNKS_AT;
 use crate::Formatted;
+use crate::MAPS_AT;
 use crate::MAX_CHUNK_UNITS;
 use crate::MAX_CHUNKS;
 use crate::MAX_MAPS;
 use crate::MAX_UNITS;
 use crate::Refusal;
+use crate::SIZES_AT;
 use crate::Shape;
 use crate::TAG;
 use crate::TRAILER_BYTES;
+use crate::UNITS_AT;
 use crate::VERSION;
+use crate::VERSION_AT;
 use crate::trailers;
 ghost use mathlib.Core.Path.{_≡_};
 ghost use mathlib.Core.Bool.{true};
@@ -50,11 +56,11 @@ fn put_shape(image: &mut [u8], t: usize, g: Shape)
 {
     let p = g.p;
     put_tag(image, t);
-    words::put_u16(image, t + 4, VERSION);
-    words::put_u16(image, t + 6, p as u16);
-    words::put_u32(image, t + 8, g.c);
-    words::put_u32(image, t + 12, g.m);
-    words::put_u32(image, t + 16, g.n);
+    words::put_u16(image, t + VERSION_AT, VERSION);
+    words::put_u16(image, t + CHUNK_UNITS_AT, p as u16);
+    words::put_u32(image, t + CHUNKS_AT, g.c);
+    words::put_u32(image, t + MAPS_AT, g.m);
+    words::put_u32(image, t + UNITS_AT, g.n);
 }
 
 // Stores the trailer's distances and length, from `at`.
@@ -69,7 +75,7 @@ fn put_sizes(image: &mut [u8], at: usize, g: Shape)
     words::put_u32(image, at + 8, start + TRAILER_BYTES as u32);
 }
 
-// The same for numbers of 32 bits.
+// Writes the image of a fresh volume of a shape in 32-bit numbers, or refuses it or the buffer's length and changes nothing.
 fn format_shape(image: &mut [u8], p: u32, c: u32, m: u32, n: u32) -> Formatted
     ensures { λ r. ⌜ r ≡ formatAnswer (record { p = p; c = c; m = m; n = n }) (now (image .entry)) ⌝ }
     ensures { λ r. ⌜ now (image .exit) ≡ formatImage (record { p = p; c = c; m = m; n = n }) (now (image .entry)) ⌝ }
@@ -84,11 +90,11 @@ fn format_shape(image: &mut [u8], p: u32, c: u32, m: u32, n: u32) -> Formatted
     }
     fill(image, start);
     put_shape(image, start, g);
-    put_sizes(image, start + 20, g);
+    put_sizes(image, start + SIZES_AT, g);
     Formatted::Done
 }
 
-// Writes the image of a fresh volume, or refuses the shape or the buffer's length and changes nothing.
+// The same for any four numbers: those past the limits are refused before they are cut to 32 bits.
 pub fn format(image: &mut [u8], p: u64, c: u64, m: u64, n: u64) -> Formatted
     ensures { λ r. ⌜ r ≡ formatAnswer (record { p = p; c = c; m = m; n = n }) (now (image .entry)) ⌝ }
     ensures { λ r. ⌜ now (image .exit) ≡ formatImage (record { p = p; c = c; m = m; n = n }) (now (image .entry)) ⌝ }

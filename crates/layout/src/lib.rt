@@ -34,6 +34,25 @@ pub const TAG: [u8; 4] = *b"RMAP";
 
 pub const VERSION: u16 = 1;
 
+// Where its fields stand, from its first byte on: the distances lead back to the logical map and to the chunk maps.
+pub(crate) const VERSION_AT: usize = 4;
+
+pub(crate) const CHUNK_UNITS_AT: usize = 6;
+
+pub(crate) const CHUNKS_AT: usize = 8;
+
+pub(crate) const MAPS_AT: usize = 12;
+
+pub(crate) const UNITS_AT: usize = 16;
+
+pub(crate) const SIZES_AT: usize = 20;
+
+pub(crate) const LINKS_BACK_AT: usize = 20;
+
+pub(crate) const MAPS_BACK_AT: usize = 24;
+
+pub(crate) const LENGTH_AT: usize = 28;
+
 // Why a call refuses: the rows of document 01's table, with the place that each gives.
 pub enum Refusal {
     Short,
@@ -59,7 +78,7 @@ pub enum Formatted {
 // What an image's trailer answers: the shape that it says, or the first refusal of rows 1 to 3.
 pub enum Trailer {
     Fits(Shape),
-    Fails(Refusal),
+    Refused(Refusal),
 }
 
 // The shape of a volume, document 01's P, C, M and N: units in a chunk, chunks, chunk maps, backing units.

@@ -1,4 +1,10 @@
 // The trailer: read and judged.
+use crate::CHUNK_UNITS_AT;
+use crate::CHUNKS_AT;
+use crate::LENGTH_AT;
+use crate::LINKS_BACK_AT;
+use crate::MAPS_AT;
+use crate::MAPS_BACK_AT;
 use crate::MAX_CHUNK_UNITS;
 use crate::MAX_CHUNKS;
 use crate::MAX_SPARE_MAPS;
@@ -10,7 +16,9 @@ use crate::Shape;
 use crate::TAG;
 use crate::TRAILER_BYTES;
 use crate::Trailer;
+use crate::UNITS_AT;
 use crate::VERSION;
+use crate::VERSION_AT;
 ghost use mathlib.Core.Path.{_≡_};
 ghost use mathlib.Core.Bool.{true};
 ghost use Prim.Native.Nat.{_+_, _-_, _*_, _≤_};
@@ -19,7 +27,7 @@ ghost use Rattle.layout.specs.Layout.{withinLimits, shapeOf, known, agre
 ghost use Rattle.layout.specs.Trailer.{trailerOutcome};
 
 // Whether a shape is within document 01's limits.
-pub fn within_limits(g: Shape) -> bool
+pub(crate) fn within_limits(g: Shape) -> bool
     ensures { λ r. ⌜ r ≡ withinLimits g ⌝ }
 {
     let p = g.p;
@@ -51,21 +59,21 @@ pub fn within_limits(g: Shape) -> bool
 }
 
 // The shape that the trailer says.
-pub fn shape_of(s: &[u8]) -> Shape
+fn shape_of(s: &[u8]) -> Shape
     requires { ⌜ trailerBytes ≤ length (now s) ⌝ }
     ensures { λ r. ⌜ r ≡ shapeOf (now (s .entry)) ⌝ }
 {
     let t = s.len() - TRAILER_BYTES;
     Shape {
-        p: words::get_u16(s, t + 6) as u32,
-        c: words::get_u32(s, t + 8),
-        m: words::get_u32(s, t + 12),
-        n: words::get_u32(s, t + 16),
+        p: words::get_u16(s, t + CHUNK_UNITS_AT) as u32,
+        c: words::get_u32(s, t + CHUNKS_AT),
+        m: words::get_u32(s, t + MAPS_AT),
+        n: words::get_u32(s, t + UNITS_AT),
     }
 }
 
 // Whether the trailer has the tag and the version.
-pub fn is_known(s: &[u8]) -> bool
+fn is_known(s: &[u8]) -> bool
     requires { ⌜ trailerBytes ≤ length (now s) ⌝ }
     ensures { λ r. ⌜ r ≡ known (now (s .entry)) ⌝ }
 {
@@ -83,11 +91,11 @@ pub fn is_known(s: &[u8]) -> bool
     if s[t + 3] != tag[3] {
         return false;
     }
-    words::get_u16(s, t + 4) == VERSION
+    words::get_u16(s, t + VERSION_AT) == VERSION
 }
 
 // The bytes of the chunk maps.
-pub fn map_bytes(g: Shape) -> u32
+pub(crate) fn map_bytes(g: Shape) -> u32
     requires { ⌜ withinLimits g ≡ true ⌝ }
     ensures { λ r. ⌜ (r ≡ mapBytes g) × (r ≤ 36864) ⌝ }
 {
@@ -95,7 +103,7 @@ pub fn map_bytes(g: Shape) -> u32
 }
 
 // Where the trailer starts.
-pub fn trailer_start(g: Shape) -> u32
+pub(crate) fn trailer_start(g: Shape) -> u32
     requires { ⌜ withinLimits g ≡ true ⌝ }
     ensures { λ r. ⌜ (r ≡ trailerStart g) × (r ≤ 38912) ⌝ }
 {
@@ -103,21 +111,21 @@ pub fn trailer_start(g: Shape) -> u32
 }
 
 // Whether the trailer's distances and length are those of a shape within the limits.
-pub fn agrees(s: &[u8], g: Shape) -> bool
+fn agrees(s: &[u8], g: Shape) -> bool
     requires { ⌜ (trailerBytes ≤ length (now s)) × (withinLimits g ≡ true) ⌝ }
     ensures { λ r. ⌜ r ≡ agreeing (now (s .entry)) g ⌝ }
 {
     let t = s.len() - TRAILER_BYTES;
     let maps = map_bytes(g);
     let start = trailer_start(g);
-    if words::get_u32(s, t + 20) != start {
+    if words::get_u32(s, t + LINKS_BACK_AT) != start {
         return false;
     }
-    if words::get_u32(s, t + 24) != maps {
+    if words::get_u32(s, t + MAPS_BACK_AT) != maps {
         return false;
     }
     let total = start as usize + TRAILER_BYTES;
-    if words::get_u32(s, t + 28) as usize != total {
+    if words::get_u32(s, t + LENGTH_AT) as usize != total {
         return false;
     }
     s.len() == total
@@ -128,17 +136,17 @@ pub fn check_trailer(s: &[u8]) -> Trailer
     ensures { λ r. ⌜ r ≡ trailerOutcome (now (s .entry)) ⌝ }
 {
     if s.len() < TRAILER_BYTES {
-        return Trailer::Fails(Refusal::Short);
+        return Trailer::Refused(Refusal::Short);
     }
     if !is_known(s) {
-        return Trailer::Fails(Refusal::Foreign);
+        return Trailer::Refused(Refusal::Foreign);
     }
     let g = shape_of(s);
     if !within_limits(g) {
-        return Trailer::Fails(Refusal::Geometry);
+        return Trailer::Refused(Refusal::Geometry);
     }
     if !agrees(s, g) {
-        return Trailer::Fails(Refusal::Geometry);
+        return Trailer::Refused(Refusal::Geometry);
     }
     Trailer::Fits(g)
 }

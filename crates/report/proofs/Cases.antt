@@ -8,6 +8,7 @@ use lib.Ieee.{Float, fin, nan, inf, lt, mul, div, ofInt, isNan}
 use Rattle.words.specs.Words.{number, digits}
 use Rattle.search.specs.Search.{from, all, any, keep, member, distinct, disjoint, lowestFrom, joined}
 use Rattle.layout.specs.declared.Refusal.the-variants.{Short, BadAlarm}
+use Rattle.layout.specs.Trailer.{trailerOutcome}
 use Rattle.layout.specs.Layout.{fresh, putWord, trailerOf, shapeBytes, sizeBytes, known, fitting, withinLimits, agreeing, shapeOf, wordsOf}
 use Rattle.image.specs.declared.Verdict.{Verdict}
 use Rattle.image.specs.declared.Verdict.the-variants.{Passed, Refused as Unsound}
@@ -110,6 +111,6 @@ table =
     ∷ []
 
 pub cases-right : AllRight table
-unfolding verdict chunkVerdict badLink badMap doubleClaim firstClaim contested clash wellFormed leading unitsOf freeUnit freeUnits heldUnits lowestFrom all any keep member distinct disjoint joined known fitting withinLimits agreeing fresh trailerOf shapeBytes sizeBytes number digits from shapeOf wordsOf lt mul div ofInt isNan mappedCount ratio reportOf alarmAt
+unfolding verdict trailerOutcome chunkVerdict badLink badMap doubleClaim firstClaim contested clash wellFormed leading unitsOf freeUnit freeUnits heldUnits lowestFrom all any keep member distinct disjoint joined known fitting withinLimits agreeing fresh trailerOf shapeBytes sizeBytes number digits from shapeOf wordsOf lt mul div ofInt isNan mappedCount ratio reportOf alarmAt
 cases-right =
     (refl, (refl, (refl, (refl, (refl, (refl, (refl, (refl, (refl, (refl, (refl, (refl, (refl, (refl, (refl, (refl, (refl, (refl, (refl, (refl, (refl, (refl, (refl, tt)))))))))))))))))))))))

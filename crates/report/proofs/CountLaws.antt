@@ -10,7 +10,7 @@ use Rattle.layout.specs.declared.Shape.{Shape}
 use Rattle.layout.specs.Shaped.{Limits, Shaped}
 use Rattle.image.specs.declared.Verdict.the-variants.{Passed}
 use Rattle.image.specs.Verdicts.{verdict}
-use Rattle.image.proofs.SoundLaws.{verdict-sound}
+use Rattle.image.proofs.SoundLaws.{passed-tested}
 use Rattle.image.proofs.Room.{free-and-held, held-high}
 use Rattle.report.specs.declared.Report.{Report}
 use Rattle.report.specs.Counts.{mappedCount, heldCount, freeCount}
@@ -21,10 +21,10 @@ use Rattle.report.specs.Reports.{ratio, reportOf}
 module _ (s : List ℕ) (g : Shape) (h : Shaped s g) (v : verdict s ≡ Passed) (free : ℕ) (e : free ≡ freeCount s) where
   -- no difference wraps
   pub free-high : free ≤ g .n
-  free-high = omega (arith, free-and-held s (verdict-sound s v), ap (λ (g : Shape). g .n) (h .same))
+  free-high = omega (arith, free-and-held s (passed-tested s v), ap (λ (g : Shape). g .n) (h .same))
 
   pub held-is : g .n - free ≡ heldCount s
-  held-is = omega (arith, free-and-held s (verdict-sound s v), ap (λ (g : Shape). g .n) (h .same))
+  held-is = omega (arith, free-and-held s (passed-tested s v), ap (λ (g : Shape). g .n) (h .same))
 
   pub held-few : g .n - free ≤ g .c * g .p
   held-few = rw (held-is, h .same) (held-high s)

@@ -14,7 +14,7 @@ use Rattle.layout.proofs.Limits.{units-high}
 use Rattle.image.specs.declared.Verdict.the-variants.{Passed}
 use Rattle.image.specs.Soundness.{Sound}
 use Rattle.image.specs.Verdicts.{verdict}
-use Rattle.image.proofs.SoundLaws.{sound-verdict}
+use Rattle.image.proofs.SoundLaws.{tested-passed}
 use Rattle.image.proofs.Wording.{sound-tested, sound-shape}
 use Rattle.image.proofs.Room.{free-and-held, held-high}
 use Rattle.report.specs.declared.Report.{Report}
@@ -43,7 +43,7 @@ good-zero false = refl
 
 module _ (g : Shape) (s : List ℕ) (z : Sound g s) where
   passed : verdict s ≡ Passed
-  passed = sound-verdict s (sound-tested g s z)
+  passed = tested-passed s (sound-tested g s z)
 
   counted : freeCount s + heldCount s ≡ g .n
   counted = free-and-held s (sound-tested g s z) ∙ ap (λ (h : Shape). h .n) (sound-shape g s z)

@@ -1,6 +1,6 @@
 -- The alarm: "An alarm level is given either as a count of free units or as a fraction of N (an f64)."
 use Prim.Native.Nat.{ℕ}
-use mathlib.Core.Bool.{Bool, true, false, cond, _||_}
+use mathlib.Core.Bool.{Bool, false, cond, _||_}
 use mathlib.Core.List.{List}
 use lib.IntN.{pos}
 use lib.Dec.{ltb}

@@ -1,5 +1,5 @@
--- The report's counts, of a sound image: "mapped chunks, held units, free units, saved units (C·P less held)". What is saved stands apart: of
--- all definitions only rawCount, savedCount and savedRatio say it.
+-- The report's counts, of a sound image: "mapped chunks, held units, free units, saved units (C·P less held)". What counts as saved stands in
+-- rawCount and savedCount here and in savedRatio (Reports.antt), and nowhere else.
 use Prim.Native.Nat.{ℕ, _-_, _*_}
 use mathlib.Core.List.{List}
 use lib.ListN.{length}

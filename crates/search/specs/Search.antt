@@ -50,7 +50,7 @@ lowestFrom f i (suc count) = let r = lowestFrom f (suc i) count in cond (f i) i 
 abbrev pub lowest : (ℕ → Bool) → ℕ → ℕ
 lowest f n = lowestFrom f 0 n
 
--- the first number of a list, or the other where there is none
+-- the first number of a list, or d where the list is empty
 abbrev pub firstOr : ℕ → List ℕ → ℕ
 firstOr d [] = d
 firstOr d (x ∷ xs) = x

@@ -10,10 +10,10 @@ use Rattle.access.proofs.parts.held_words.Tie as tie
 
 -- the map's units, once counted
 within : (c : tie.After-struct-known2)
-    → Within (now (c .before .before .before .before .before .before .args .image)) (c .before .before .before .before .before .before .args .g) (c .before .before .before .before .link .result) (c .before .before .held .result)
+    → Within (now (c .before .before .before .before .before .before .args .image)) (c .before .before .before .before .before .before .args .g) (c .before .before .before .before .link .result) (c .before .before .held-count .result)
 within c =
     let a = c .before .before .before .before .before .before in
-    words-within (now (a .args .image)) (a .args .g) (a .args .i) (c .before .before .before .before .link .result) (a .pre .0) (c .before .before .before .before .link .ensures) (c .before .before .before .if1 .left) (a .pre .1 .1) (c .before .before .held .result) (c .before .before .held .ensures)
+    words-within (now (a .args .image)) (a .args .g) (a .args .i) (c .before .before .before .before .link .result) (a .pre .0) (c .before .before .before .before .link .ensures) (c .before .before .before .if1 .left) (a .pre .1 .1) (c .before .before .held-count .result) (c .before .before .held-count .ensures)
 
 link-requires : tie.Need-link-requires
 link-requires c κs = search needs
@@ -23,8 +23,8 @@ returns c =
     let a = c .before .before .before in
     (words-absent (now (a .args .image)) (a .args .i) (not-mapped (now (a .args .image)) (a .args .i) (sym (c .before .link .ensures) ∙ c .if1 .taken)), omega arith, omega arith)
 
-held-requires : tie.Need-held-requires
-held-requires c κs =
+held-count-requires : tie.Need-held-count-requires
+held-count-requires c κs =
     let a = c .before .before .before in
     (a .pre .0, map-named (now (a .args .image)) (a .args .g) (a .args .i) (c .before .link .result) (a .pre .0) (c .before .link .ensures) (c .if1 .left) (a .pre .1 .1))
 
@@ -53,7 +53,7 @@ returns-2 : tie.Need-returns-2
 returns-2 c =
     let a = c .before .before .before .before .before .before in
     let w = within c in
-    (words-named (now (a .args .image)) (a .args .g) (a .args .i) (c .before .before .before .before .link .result) (a .pre .0) (c .before .before .before .before .link .ensures) (c .before .before .before .if1 .left) (a .pre .1 .1) (c .before .before .held .result) (c .before .before .held .ensures), omega arith, omega arith)
+    (words-named (now (a .args .image)) (a .args .g) (a .args .i) (c .before .before .before .before .link .result) (a .pre .0) (c .before .before .before .before .link .ensures) (c .before .before .before .if1 .left) (a .pre .1 .1) (c .before .before .held-count .result) (c .before .before .held-count .ensures), omega arith, omega arith)
 
 pub held-words-spec : {M : Type 1} → statement M
 held-words-spec =
@@ -61,7 +61,7 @@ held-words-spec =
     (tie.spec
     link-requires
     returns
-    held-requires
+    held-count-requires
     cast-c
     cast-p
     mul-start

@@ -27,8 +27,8 @@ contains-requires c κs = search needs
 remove-requires : tie.Need-remove-requires
 remove-requires c κs = search needs
 
-held-requires : tie.Need-held-requires
-held-requires c κs =
+held-count-requires : tie.Need-held-count-requires
+held-count-requires c κs =
     let a = c .before .before .before .before .before .before .before .before .before .before .before .before in
     let w = c .before .before .before .before .before .before .before .before .link .ensures in
     let m = ap (λ (g : Shape). g .m) (a .pre .0 .same) in
@@ -41,7 +41,7 @@ claim-units-requires c κs =
     let w = c .before .before .before .before .before .before .before .before .before .before .link .ensures in
     let m = ap (λ (g : Shape). g .m) (a .pre .0 .same) in
     let h = named-below (a .args .image .now) (a .args .j) (λ e. c .before .before .before .before .before .before .before .before .before .if1 .left (omega arith)) (a .pre .1 .0 .1) in
-    (a .pre .0, (omega arith, c .before .held .ensures))
+    (a .pre .0, (omega arith, c .before .held-count .ensures))
 
 same-length : tie.Need-same-length
 same-length c = search needs
@@ -89,7 +89,7 @@ claim-spec =
     returns
     contains-requires
     remove-requires
-    held-requires
+    held-count-requires
     claim-units-requires
     same-length
     same-length-2

@@ -38,8 +38,8 @@ returns-3 c =
     let j = a .args .j in
     sym (clash-same s i j _ _ (c .before .before .before .before .link .ensures) (c .before .before .link2 .ensures) (c .before .before .before .if1 .left) (c .before .if2 .left) (c .if3 .taken))
 
-meet-requires : tie.Need-meet-requires
-meet-requires c κs =
+share-unit-requires : tie.Need-share-unit-requires
+share-unit-requires c κs =
     let a = c .before .before .before .before .before .before in
     let s = a .args .image .now in
     let i = a .args .i in
@@ -57,9 +57,9 @@ returns-4 c =
     let s = a .args .image .now in
     let i = a .args .i in
     let j = a .args .j in
-    c .meet .ensures ∙ sym (clash-other s i j _ _ (c .before .before .before .before .before .link .ensures) (c .before .before .before .link2 .ensures) (c .before .before .before .before .if1 .left) (c .before .before .if2 .left) (c .before .if3 .left))
+    c .share-unit .ensures ∙ sym (clash-other s i j _ _ (c .before .before .before .before .before .link .ensures) (c .before .before .before .link2 .ensures) (c .before .before .before .before .if1 .left) (c .before .before .if2 .left) (c .before .if3 .left))
 
 pub clashes-spec : {M : Type 1} → statement M
 clashes-spec =
     tie.close
-    (tie.spec link-requires returns link-requires-2 returns-2 returns-3 meet-requires returns-4)
+    (tie.spec link-requires returns link-requires-2 returns-2 returns-3 share-unit-requires returns-4)

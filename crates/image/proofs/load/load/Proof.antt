@@ -1,8 +1,8 @@
 -- `image::load::load` meets its contract: the trailer settles rows 1 to 3, `judge` rows 4 to 6 and the sets.
-use Rattle.image.proofs.Verdicts.{outcome-fits, outcome-fails, passed-answer, refused-verdict}
+use Rattle.image.proofs.Verdicts.{verdict-fits, verdict-refused, passed-answer, refused-verdict}
 use Rattle.image.specs.Loading.{answer}
 use Rattle.image.specs.declared.Verdict.{Verdict}
-use Rattle.layout.proofs.Limits.{shaped}
+use Rattle.layout.proofs.Limits.{fits-on, on-shaped}
 use mathlib.Core.Path.{sym, ap, _∙_}
 use borrow.Author.Needs.{needs}
 use Rattle.image.proofs.load.load.Statement.{statement}
@@ -22,8 +22,8 @@ slice-aggregate-judge-2 c = search needs
 
 judge-requires : tie.Need-judge-requires
 judge-requires c κs =
-    let f = outcome-fits (c .before .before .before .before .before .before .before .args .image .now) _ (sym (c .before .before .before .before .before .check-trailer .ensures) ∙ c .before .before .before .t .given .1) in
-    (shaped _ _ (f .same) (f .right), search needs)
+    let e = (sym (c .before .before .before .before .before .check-trailer .ensures) ∙ c .before .before .before .t .given .1) in
+    (on-shaped _ _ (fits-on _ _ e), search needs)
 
 enum-told : tie.Need-enum-told
 enum-told c = search needs
@@ -43,19 +43,19 @@ refused-requires-2 c κs = search needs
 returns : tie.Need-returns
 returns c =
     let s = c .before .before .before .before .before .before .before .before .before .before .before .before .args .image .now in
-    let f = outcome-fits s _ (sym (c .before .before .before .before .before .before .before .before .before .before .check-trailer .ensures) ∙ c .before .before .before .before .before .before .before .before .t .given .1) in
-    passed-answer s _ _ _ _ (f .same) (f .rest) (c .before .before .before .before .judge .ensures) (c .enum-told .given .1)
+    let e = (sym (c .before .before .before .before .before .before .before .before .before .before .check-trailer .ensures) ∙ c .before .before .before .before .before .before .before .before .t .given .1) in
+    passed-answer s _ _ _ _ (sym (fits-on s _ e .shape)) (verdict-fits s _ e) (c .before .before .before .before .judge .ensures) (c .enum-told .given .1)
 
 returns-2 : tie.Need-returns-2
 returns-2 c =
     let s = c .before .before .before .before .before .before .before .before .before .before .before .before .before .before .args .image .now in
-    let f = outcome-fits s _ (sym (c .before .before .before .before .before .before .before .before .before .before .before .before .check-trailer .ensures) ∙ c .before .before .before .before .before .before .before .before .before .before .t .given .1) in
-    c .refused .ensures s ∙ ap (λ (v : Verdict). answer v s) (sym (refused-verdict s _ _ _ _ (f .same) (f .rest) (c .before .before .before .before .before .before .judge .ensures) _ (c .before .before .v .given .1)))
+    let e = (sym (c .before .before .before .before .before .before .before .before .before .before .before .before .check-trailer .ensures) ∙ c .before .before .before .before .before .before .before .before .before .before .t .given .1) in
+    c .refused .ensures s ∙ ap (λ (v : Verdict). answer v s) (sym (refused-verdict s _ _ _ _ (sym (fits-on s _ e .shape)) (verdict-fits s _ e) (c .before .before .before .before .before .before .judge .ensures) _ (c .before .before .v .given .1)))
 
 returns-3 : tie.Need-returns-3
 returns-3 c =
     let s = c .before .before .before .before .before .before .args .image .now in
-    c .refused2 .ensures s ∙ ap (λ (v : Verdict). answer v s) (sym (outcome-fails s _ (sym (c .before .before .before .before .check-trailer .ensures) ∙ c .before .before .t2 .given .1)))
+    c .refused2 .ensures s ∙ ap (λ (v : Verdict). answer v s) (sym (verdict-refused s _ (sym (c .before .before .before .before .check-trailer .ensures) ∙ c .before .before .t2 .given .1)))
 
 pub load-spec : {M : Type 1} → statement M
 load-spec =

@@ -20,8 +20,8 @@ returns c =
     let w = c .before .link .ensures in
     sym (absent-map (a .args .image .now) (a .args .i) (omega arith))
 
-held-requires : tie.Need-held-requires
-held-requires c κs =
+held-count-requires : tie.Need-held-count-requires
+held-count-requires c κs =
     let a = c .before .before .before in
     let w = c .before .link .ensures in
     let m = ap (λ (g : Shape). g .m) (a .pre .0 .same) in
@@ -33,7 +33,7 @@ returns-2 c =
     let s = a .args .image .now in
     let i = a .args .i in
     let w = c .before .before .before .link .ensures in
-    sym (bad-form s i _ _ w (c .before .before .if1 .left) (c .before .held .ensures) (c .if2 .taken))
+    sym (bad-form s i _ _ w (c .before .before .if1 .left) (c .before .held-count .ensures) (c .if2 .taken))
 
 absent-from-requires : tie.Need-absent-from-requires
 absent-from-requires c κs =
@@ -45,7 +45,7 @@ absent-from-requires c κs =
       a .pre .0,
       (
         omega (arith, named-below s i (λ e. c .before .before .if1 .left (omega arith)) (a .pre .1 .1)),
-        omega (arith, c .before .held .ensures, length-leading (isUnit (shapeOf s)) (mapOf s (c .before .before .before .link .result)), length-mapOf s (a .args .g) (c .before .before .before .link .result) (a .pre .0)),
+        omega (arith, c .before .held-count .ensures, length-leading (isUnit (shapeOf s)) (mapOf s (c .before .before .before .link .result)), length-mapOf s (a .args .g) (c .before .before .before .link .result) (a .pre .0)),
       ),
     )
 
@@ -56,9 +56,9 @@ returns-3 c =
     let i = a .args .i in
     let w = c .before .before .before .before .link .ensures in
     c .absent-from .ensures
-    ∙ sym (good-form s i _ _ w (c .before .before .before .if1 .left) (c .before .before .held .ensures) (c .before .if2 .left))
+    ∙ sym (good-form s i _ _ w (c .before .before .before .if1 .left) (c .before .before .held-count .ensures) (c .before .if2 .left))
 
 pub good-map-spec : {M : Type 1} → statement M
 good-map-spec =
     tie.close
-    (tie.spec link-requires returns held-requires returns-2 absent-from-requires returns-3)
+    (tie.spec link-requires returns held-count-requires returns-2 absent-from-requires returns-3)

@@ -6,8 +6,6 @@ use borrow.Author.Needs.{needs}
 use Rattle.layout.proofs.format.format.Statement.{statement}
 use Rattle.layout.proofs.format.format.Tie as tie
 
--- `layout::format::format` meets its contract: numbers past the limits are refused, and the others fit 32 bits.
-
 -- the shape that is asked for
 abbrev asked : tie.Start → Shape
 asked c = record { p = c .args .p; c = c .args .c; m = c .args .m; n = c .args .n }

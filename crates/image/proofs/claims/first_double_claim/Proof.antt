@@ -1,4 +1,4 @@
--- `image::claims::double_claim` meets its contract.
+-- `image::claims::first_double_claim` meets its contract.
 use lib.ListN.{length}
 use Rattle.image.proofs.Claiming.{unheld-start, unnamed-start, scanned-all, scanned-part}
 use Rattle.bitset.proofs.BitSets.{bitSet-ext, length-bitSet}
@@ -15,8 +15,8 @@ use native.Mathlib.Omega.{arith}
 use mathlib.Core.Bool.{true, false}
 use mathlib.Core.Path.{_≡_, _∙_, ap, sym}
 use Prim.Native.Nat.{_-_, _≤_}
-use Rattle.image.proofs.claims.double_claim.Statement.{statement}
-use Rattle.image.proofs.claims.double_claim.Tie as tie
+use Rattle.image.proofs.claims.first_double_claim.Statement.{statement}
+use Rattle.image.proofs.claims.first_double_claim.Tie as tie
 
 abbrev Inv-loop : tie.InvT-loop
 Inv-loop image g units₀ maps₀ c n m j₀ units maps j = (j ≤ c) × (units ≡ bitSet (unheld image j) unitSetWords) × (maps ≡ bitSet (unnamed image j) mapSetWords) × (doubleClaim image ≡ lowestFrom (contested image) j (c - j))
@@ -101,8 +101,8 @@ returns-2 c =
     scanned-all (a .args .image .now) (a .args .g) (a .pre .0 .same) (l .j) _ _ (omega arith)
     (sym (l .inv .3 ∙ lowest-end _ (a .args .g .c) (l .j) (omega arith))) (l .inv .1) (l .inv .2)
 
-pub double-claim-spec : {M : Type 1} → statement M
-double-claim-spec =
+pub first-double-claim-spec : {M : Type 1} → statement M
+first-double-claim-spec =
     tie.close
     (tie.spec
     Inv-loop

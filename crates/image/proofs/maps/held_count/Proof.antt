@@ -1,4 +1,4 @@
--- `image::maps::held` meets its contract: the units from word j on, and the j before it, are all.
+-- `image::maps::held_count` meets its contract: the units from word j on, and the j before it, are all.
 use Prim.Native.Nat.{_+_, _-_, _≤_}
 use mathlib.Core.Path.{_≡_, ap}
 use native.Mathlib.Omega.{arith}
@@ -12,8 +12,8 @@ use Rattle.layout.specs.Shaped.{mapOf}
 use Rattle.image.specs.Claims.{heldIn}
 use Rattle.image.proofs.MapWords.{length-mapOf}
 use Rattle.image.proofs.Leading.{leading-more, leading-stop, leading-end}
-use Rattle.image.proofs.maps.held.Statement.{statement}
-use Rattle.image.proofs.maps.held.Tie as tie
+use Rattle.image.proofs.maps.held_count.Statement.{statement}
+use Rattle.image.proofs.maps.held_count.Tie as tie
 
 abbrev Inv-loop : tie.InvT-loop
 Inv-loop image g k p n j₀ j =
@@ -70,8 +70,8 @@ returns-2 c =
     let l = length-mapOf s (a .args .g) k (a .pre .0) in
     omega (arith, leading-end (isUnit (shapeOf s)) (mapOf s k) (c .before .loop .j) (omega arith))
 
-pub held-spec : {M : Type 1} → statement M
-held-spec =
+pub held-count-spec : {M : Type 1} → statement M
+held-count-spec =
     tie.close
     (tie.spec
     Inv-loop

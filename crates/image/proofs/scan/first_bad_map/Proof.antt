@@ -1,4 +1,4 @@
--- `image::scan::bad_map` meets its contract: what is left to search from chunk i on is the whole search.
+-- `image::scan::first_bad_map` meets its contract: what is left to search from chunk i on is the whole search.
 use Prim.Native.Nat.{_-_, _≤_}
 use mathlib.Core.Path.{_≡_, _∙_, ap, sym}
 use mathlib.Core.Bool.{not}
@@ -8,8 +8,8 @@ use Rattle.layout.specs.declared.Shape.{Shape}
 use Rattle.search.specs.Search.{lowestFrom}
 use Rattle.image.specs.Verdicts.{goodMap, badMap}
 use Rattle.search.proofs.Ranges.{lowest-start, lowest-more, lowest-found, lowest-end}
-use Rattle.image.proofs.scan.bad_map.Statement.{statement}
-use Rattle.image.proofs.scan.bad_map.Tie as tie
+use Rattle.image.proofs.scan.first_bad_map.Statement.{statement}
+use Rattle.image.proofs.scan.first_bad_map.Tie as tie
 
 abbrev Inv-loop : tie.InvT-loop
 Inv-loop image g c i₀ i =
@@ -57,8 +57,8 @@ returns-2 c =
     let a = c .before .before .before .before in
     sym (l .inv .1 ∙ lowest-end _ (a .args .g .c) (l .i) (omega arith))
 
-pub bad-map-spec : {M : Type 1} → statement M
-bad-map-spec =
+pub first-bad-map-spec : {M : Type 1} → statement M
+first-bad-map-spec =
     tie.close
     (tie.spec
     Inv-loop

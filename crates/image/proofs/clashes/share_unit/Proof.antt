@@ -1,4 +1,4 @@
--- `image::clashes::meet` meets its contract: the units of h from i on are still to be looked up.
+-- `image::clashes::share_unit` meets its contract: the units of h from i on are still to be looked up.
 use Prim.Native.Nat.{ℕ, _-_, _≤_}
 use mathlib.Core.Path.{_≡_, _∙_, ap, sym}
 use mathlib.Core.Bool.{Bool, not}
@@ -10,8 +10,8 @@ use Rattle.image.specs.Claims.{heldIn}
 use Rattle.search.proofs.Distinct.{meets}
 use Rattle.search.proofs.Members.{any-more, any-stop, any-end}
 use Rattle.image.proofs.MapWords.{held-word}
-use Rattle.image.proofs.clashes.meet.Statement.{statement}
-use Rattle.image.proofs.clashes.meet.Tie as tie
+use Rattle.image.proofs.clashes.share_unit.Statement.{statement}
+use Rattle.image.proofs.clashes.share_unit.Tie as tie
 
 abbrev Inv-loop : tie.InvT-loop
 Inv-loop image g k h count end i₀ i =
@@ -20,11 +20,11 @@ Inv-loop image g k h count end i₀ i =
 abbrev μ-loop : tie.MeasureT-loop
 μ-loop image g k h count end i₀ i = end - i
 
-held-requires : tie.Need-held-requires Inv-loop μ-loop
-held-requires c κs = search needs
+held-count-requires : tie.Need-held-count-requires Inv-loop μ-loop
+held-count-requires c κs = search needs
 
-held-requires-2 : tie.Need-held-requires-2 Inv-loop μ-loop
-held-requires-2 c κs = search needs
+held-count-requires-2 : tie.Need-held-count-requires-2 Inv-loop μ-loop
+held-count-requires-2 c κs = search needs
 
 loop-holds : tie.Need-loop-holds Inv-loop μ-loop
 loop-holds c = (search needs, meets _ _)
@@ -32,20 +32,20 @@ loop-holds c = (search needs, meets _ _)
 map-word-requires : tie.Need-map-word-requires Inv-loop μ-loop
 map-word-requires c κs =
     let a = c .before .before .before .before .before in
-    let e = c .before .before .held2 .ensures in
+    let e = c .before .before .held-count2 .ensures in
     (a .pre .0, (a .pre .1 .1, held-word (a .args .image .now) (a .args .g) (a .args .h) (c .before .loop .i) (a .pre .0) (a .pre .1 .1) (omega arith) .0))
 
 holds-requires : tie.Need-holds-requires Inv-loop μ-loop
 holds-requires c κs =
     let a = c .before .before .before .before .before .before in
-    (a .pre .0, (a .pre .1 .0, c .before .before .before .before .held .ensures))
+    (a .pre .0, (a .pre .1 .0, c .before .before .before .before .held-count .ensures))
 
 returns : tie.Need-returns Inv-loop μ-loop
 returns c =
     let a = c .before .before .before .before .before .before .before .before in
     let s = a .args .image .now in
     let l = c .before .before .before .before .loop in
-    let e = c .before .before .before .before .before .held2 .ensures in
+    let e = c .before .before .before .before .before .held-count2 .ensures in
     let w = held-word s (a .args .g) (a .args .h) (l .i) (a .pre .0) (a .pre .1 .1) (omega arith) in
     let f : ℕ → Bool = λ y. member y (heldIn s (a .args .k)) in
     sym (l .inv .1 ∙ any-stop f (heldIn s (a .args .h)) (l .i) (omega arith) (ap f (sym (c .before .before .map-word .ensures ∙ w .1)) ∙ sym (c .before .holds .ensures) ∙ c .if1 .taken))
@@ -61,7 +61,7 @@ loop-again c =
     let a = c .before .before .before .before .before .before .before .before in
     let s = a .args .image .now in
     let l = c .before .before .before .before .loop in
-    let e = c .before .before .before .before .before .held2 .ensures in
+    let e = c .before .before .before .before .before .held-count2 .ensures in
     let w = held-word s (a .args .g) (a .args .h) (l .i) (a .pre .0) (a .pre .1 .1) (omega arith) in
     let f : ℕ → Bool = λ y. member y (heldIn s (a .args .k)) in (
       omega arith,
@@ -73,17 +73,17 @@ returns-2 c =
     let a = c .before .before .before .before .before in
     let s = a .args .image .now in
     let l = c .before .loop in
-    let e = c .before .before .held2 .ensures in
+    let e = c .before .before .held-count2 .ensures in
     sym (l .inv .1 ∙ any-end (λ y. member y (heldIn s (a .args .k))) (heldIn s (a .args .h)) (l .i) (omega arith))
 
-pub meet-spec : {M : Type 1} → statement M
-meet-spec =
+pub share-unit-spec : {M : Type 1} → statement M
+share-unit-spec =
     tie.close
     (tie.spec
     Inv-loop
     μ-loop
-    held-requires
-    held-requires-2
+    held-count-requires
+    held-count-requires-2
     loop-holds
     map-word-requires
     holds-requires
