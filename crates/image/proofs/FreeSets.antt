@@ -1,23 +1,36 @@
--- The set of free units that load answers: its members are the image's free units.
+-- The free sets that load answers: their members are the image's free units and its free maps.
 use Prim.Native.Nat.{ℕ, _≤_}
 use mathlib.Core.Path.{_≡_, ap, _∙_}
-use mathlib.Core.Bool.{false}
+use mathlib.Core.Bool.{true, false}
 use mathlib.Core.List.{List}
+use native.Mathlib.Omega.{arith}
 use borrow.Author.Tests.{le-ltb}
-use Rattle.bitset.specs.Bits.{members}
+use Rattle.bitset.specs.Bits.{members, bitSet}
 use Rattle.bitset.proofs.Members.{members-below}
-use Rattle.layout.specs.Layout.{shapeOf}
+use Rattle.layout.specs.Layout.{shapeOf, fitting}
 use Rattle.layout.proofs.Limits.{fitting-limits, units-high}
 use Rattle.image.specs.declared.Loaded.{Loaded}
-use Rattle.image.specs.Free.{freeUnit, freeUnits}
+use Rattle.image.specs.Free.{freeUnit, freeMap, freeUnits, freeMaps}
+use Rattle.image.specs.Loading.{unitSetWords, mapSetWords}
 use Rattle.image.proofs.Loads.{Known}
 
-no-unit : (s : List ℕ) (u : ℕ) → shapeOf s .n ≤ u → freeUnit s u ≡ false
-unfolding freeUnit
-no-unit s u h = rw (le-ltb u (shapeOf s .n) h)
+module _ (s : List ℕ) where
+  no-unit : (u : ℕ) → shapeOf s .n ≤ u → freeUnit s u ≡ false
+  unfolding freeUnit
+  no-unit u h = rw (le-ltb u (shapeOf s .n) h)
+
+  no-map : (k : ℕ) → shapeOf s .m ≤ k → freeMap s k ≡ false
+  unfolding freeMap
+  no-map k h = rw (le-ltb k (shapeOf s .m) h)
+
+  module _ (e : fitting s ≡ true) where
+    pub unit-members : members (bitSet (freeUnit s) unitSetWords) ≡ freeUnits s
+    unfolding freeUnits
+    unit-members = members-below (freeUnit s) (shapeOf s .n) unitSetWords no-unit (units-high (shapeOf s) (fitting-limits s e))
+
+    pub map-members : members (bitSet (freeMap s) mapSetWords) ≡ freeMaps s
+    unfolding freeMaps
+    map-members = let l = fitting-limits s e in members-below (freeMap s) (shapeOf s .m) mapSetWords no-map (omega (arith, l .m-high, l .c-high))
 
 pub free-members : (s : List ℕ) (l : Loaded) → Known s l → members (l .units) ≡ freeUnits s
-unfolding freeUnits
-free-members s l k =
-    ap members (k .units)
-    ∙ members-below (freeUnit s) (shapeOf s .n) 72 (no-unit s) (units-high (shapeOf s) (fitting-limits s (k .sound .fitting)))
+free-members s l k = ap members (k .units) ∙ unit-members s (k .sound .fitting)

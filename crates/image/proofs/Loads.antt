@@ -4,7 +4,7 @@ use mathlib.Core.Path.{_≡_, refl, sym, ap, _∙_}
 use mathlib.Core.List.{List}
 use Rattle.layout.specs.declared.Refusal.{Refusal}
 use Rattle.layout.specs.Layout.{shapeOf}
-use Rattle.layout.specs.Shaped.{Shaped}
+use Rattle.layout.specs.Shaped.{Shaped, On}
 use Rattle.layout.proofs.Limits.{shaped}
 use Rattle.bitset.specs.Bits.{bitSet}
 use Rattle.image.specs.declared.Verdict.{Verdict}
@@ -26,6 +26,7 @@ pub record Known (s : List ℕ) (l : Loaded) : Type 0 where
   pub passed : verdict s ≡ Passed
   pub sound : Tested s
   pub shape : l .shape ≡ shapeOf s
+  pub on : On (l .shape) s
   pub shaped : Shaped s (l .shape)
   pub units : l .units ≡ bitSet (freeUnit s) 72
   pub maps : l .maps ≡ bitSet (freeMap s) 5
@@ -44,6 +45,7 @@ module _ (s : List ℕ) (l : Loaded) (e : l ≡ loaded s) where
         passed = v;
         sound = z;
         shape = g;
+        on = record { long = z .long; shape = sym g; known = z .known; fitting = z .fitting };
         shaped = shaped s (l .shape) g (z .fitting);
         units = ap (λ (a : Loaded). a .units) q;
         maps = ap (λ (a : Loaded). a .maps) q;

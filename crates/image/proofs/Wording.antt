@@ -74,20 +74,26 @@ module _ (s : List ℕ) (z : Tested s) where
       let lb : b < length (unitsOf s i) = let o = ap length back in omega (arith, pb .0) in
       (q, distinct-place (unitsOf s i) (z .single i (n .chunk)) a b (pa .0) lb (pa .1 ∙ sym (pb .1) ∙ ap (λ (us : List ℕ). getD us b 0) back))
 
-  -- of a list of bytes, as every lent image is
-  pub tested-sound : Bytes s → Sound (shapeOf s) s
-  tested-sound b =
+  -- of an image that ends in the trailer of the shape that it says
+  pub trailed-sound : drop (trailerStart (shapeOf s)) s ≡ trailerOf (shapeOf s) → Sound (shapeOf s) s
+  trailed-sound t =
       let g = shapeOf s in
-      let size = fitting-length s (z .fitting) in
       record {
         limits = fitting-limits s (z .fitting);
-        size = size;
-        trailer = let e : trailerStart g ≡ trailerAt s = omega arith in ap (λ (k : ℕ). drop k s) e ∙ ends-in-trailer s b (z .long) (z .known) (z .fitting);
+        size = fitting-length s (z .fitting);
+        trailer = t;
         entries = λ i h m. named-below s i m (z .links i h);
         maps = λ i j h l m e. map-owner s z i j h l (is-mapped s i m) (is-mapped s j (λ x. m (e ∙ x))) e;
         forms = λ i h m. (length (heldIn s (linkOf s i)), form-of (isUnit g) (namedWords g s i) (sym (named-map s i m) ∙ z .maps i h));
         units = once;
       }
+
+  -- of a list of bytes, as every lent image is
+  pub tested-sound : Bytes s → Sound (shapeOf s) s
+  tested-sound b =
+      let size = fitting-length s (z .fitting) in
+      let e : trailerStart (shapeOf s) ≡ trailerAt s = omega arith in
+      trailed-sound (ap (λ (k : ℕ). drop k s) e ∙ ends-in-trailer s b (z .long) (z .known) (z .fitting))
 
 -- ---- and from the words to the tests
 

@@ -5,12 +5,12 @@ use mathlib.Core.Logic.{_≢_}
 use mathlib.Core.Bool.{_&&_}
 use mathlib.Core.List.{List}
 use native.Mathlib.Omega.{arith}
-use lib.ListN.{length, getD}
+use lib.ListN.{length, getD, drop}
 use lib.Dec.{eqb}
 use lib.Arith.{digits-lt, digits-div, digits-mod}
 use Rattle.words.specs.Words.{number, digits}
 use Rattle.words.proofs.Laws.{length-digits, length-store, number-ext}
-use Rattle.words.proofs.Store.{Outside, getD-sets-outside, number-store-apart, number-store-same}
+use Rattle.words.proofs.Store.{Outside, getD-sets-outside, number-store-apart, number-store-same, drop-store}
 use Rattle.layout.specs.declared.Shape.{Shape}
 use Rattle.layout.specs.Layout.{X, agreeing, mapBytes, trailerBytes, trailerStart, trailerAt, withinLimits, imageBytes, mapWords, shapeOf, known, fitting, wordAt, putWord, mapWordPlace}
 use Rattle.layout.proofs.Limits.{fitting-limits, fitting-length}
@@ -106,3 +106,7 @@ pub place-word : (g : Shape) (k j k′ j′ : ℕ) → j < mapWords g → j′ <
 place-word g k j k′ j′ p q e =
     let sums : k * mapWords g + j ≡ k′ * mapWords g + j′ = omega arith in
     sym (digits-mod k p) ∙ ap (λ (n : ℕ). n % mapWords g) sums ∙ digits-mod k′ q
+
+-- a word stored before the trailer leaves the trailer's bytes
+pub put-trailer : (g : Shape) (s : List ℕ) (i v : ℕ) → i < wordCount g → drop (trailerStart g) (putWord s i v) ≡ drop (trailerStart g) s
+put-trailer g s i v h = drop-store 8 s (8 * i) v (trailerStart g) (omega arith)

@@ -5,8 +5,8 @@ use mathlib.Core.List.{List, [], _∷_}
 use native.Mathlib.Nat.{one-le-pow, pow-suc, mod-one, mod-eq-of-lt}
 use native.Mathlib.Numerals.{add-one}
 use native.Mathlib.Omega.{arith}
-use lib.ListN.{length, getD, set, length-set}
-use lib.Seq.{sets, getD-set-same, getD-set-other}
+use lib.ListN.{length, getD, set, drop, length-set}
+use lib.Seq.{sets, getD-set-same, getD-set-other, drop-set-lt}
 use lib.Arith.{mod-mul}
 use lib.Dec.{lit<}
 use Rattle.words.specs.Words.{number, digits, storeAt}
@@ -43,3 +43,11 @@ number-stored (suc w) s at v h =
 -- a stored number is read back
 pub number-store-same : (w : ℕ) (s : List ℕ) (at v : ℕ) → at + w ≤ length s → v < 256 ^ w → number w (storeAt w s at v) at ≡ v
 number-store-same w s at v h b = number-stored w s at v h ∙ mod-eq-of-lt b
+
+-- what stands past a store stays
+drop-sets : (vs l : List ℕ) (i n : ℕ) → i + length vs ≤ n → drop n (sets l i vs) ≡ drop n l
+drop-sets [] l i n h = refl
+drop-sets (a ∷ vs) l i n h = drop-sets vs (set l i a) (suc i) n (omega arith) ∙ drop-set-lt n l i a (omega arith)
+
+pub drop-store : (w : ℕ) (s : List ℕ) (at v n : ℕ) → at + w ≤ n → drop n (storeAt w s at v) ≡ drop n s
+drop-store w s at v n h = drop-sets (digits w v) s at n (omega (arith, length-digits w v))
