@@ -1,0 +1,194 @@
+-- The theorems of this crate that a reader wants: nothing else cites them. `Bytes s` says that each element of s is below 256, as every lent
+-- image's is.
+use Prim.Native.Nat.{ℕ, zero, suc, _*_, _<_, _≤_}
+use mathlib.Core.Path.{_≡_, refl, ap, _∙_, subst}
+use mathlib.Core.Bool.{Bool, true, false, cond}
+use mathlib.Core.List.{List}
+use native.Mathlib.Omega.{arith}
+use lib.Dec.{leb}
+use borrow.Author.Tests.{ltb-true, ltb-false, lt-ltb, le-ltb, leb-true, le-leb}
+use Rattle.search.proofs.Bools.{contradict, is-false, and-left, and-right, and-intro}
+use Rattle.words.proofs.Numbers.{Bytes}
+use Rattle.layout.specs.declared.Shape.{Shape}
+use Rattle.layout.specs.declared.Refusal.{Refusal}
+use Rattle.layout.specs.declared.Refusal.the-variants.{Short, Foreign, Geometry, BadLink, BadMap, Shared, Range, Size, NoRoom, Small, BadPlan, BadAlarm}
+use Rattle.layout.specs.Layout.{unitBytes, mapWords, shapeOf}
+use Rattle.image.specs.declared.Verdict.{Verdict}
+use Rattle.image.specs.declared.Verdict.the-variants.{Passed, Refused as Unsound}
+use Rattle.image.specs.Soundness.{Sound}
+use Rattle.image.specs.Verdicts.{verdict}
+use Rattle.image.specs.Rows.{Row}
+use Rattle.image.specs.Answers.{ifSound}
+use Rattle.image.proofs.Theorems.{passed-is-sound, sound-is-passed, refused-is-row, row-is-refused}
+use Rattle.steps.specs.declared.Step.{Step}
+use Rattle.steps.specs.declared.Decoded.the-variants.{Whole}
+use Rattle.steps.specs.declared.Request.{Request}
+use Rattle.steps.specs.declared.Request.the-variants.{Write, Discard}
+use Rattle.steps.specs.Steps.{wholeSteps, decodeAt, stepsOf, chunkOf}
+use Rattle.checker.specs.declared.Checked.{Checked}
+use Rattle.checker.specs.declared.Checked.the-variants.{Accepted, Refused}
+use Rattle.checker.specs.Rules.{Known, knownOf, brokenRule, broken, goodChunk, goodSize, judged, checked}
+use Rattle.checker.specs.Reading.{At, Rule1, Kept, LowestBroken, GoodRequest, Refuses, Answers}
+use Rattle.checker.proofs.Places.{step-told, step-there}
+use Rattle.checker.proofs.Lowest.{unbroken-kept, kept-unbroken, broken-lowest, lowest-broken}
+
+-- ---- the steps of a plan
+
+-- Where rule 1 is kept, the step at place i of `stepsOf plan` is what the 16 bytes of the plan's step i say.
+pub step-is-read : (g : Shape) (plan : List ℕ) → Rule1 g plan → (i : ℕ) (x : Step) → At (stepsOf plan) i x
+    → (i < wholeSteps plan) × (decodeAt plan i ≡ Whole x)
+step-is-read g plan h = step-told plan (λ i l. let s = h .steps i l in (s .0, s .1))
+
+pub read-is-step : (g : Shape) (plan : List ℕ) → Rule1 g plan → (i : ℕ) (x : Step) → i < wholeSteps plan → decodeAt plan i ≡ Whole x
+    → At (stepsOf plan) i x
+read-is-step g plan h = step-there plan (λ i l. let s = h .steps i l in (s .0, s .1))
+
+-- ---- the rules
+
+-- No rule is broken exactly where the five are kept, and rule n is the lowest broken exactly where the rules to read say so.
+pub unbroken-is-kept : (kn : Known) (r : Request) (plan : List ℕ) → 1 ≤ mapWords (kn .shape) → brokenRule kn r plan ≡ 0 → Kept kn r plan
+unbroken-is-kept = unbroken-kept
+
+pub kept-is-unbroken : (kn : Known) (r : Request) (plan : List ℕ) → 1 ≤ mapWords (kn .shape) → Kept kn r plan → brokenRule kn r plan ≡ 0
+kept-is-unbroken = kept-unbroken
+
+pub broken-is-lowest : (kn : Known) (r : Request) (plan : List ℕ) → 1 ≤ mapWords (kn .shape) → (n : ℕ) → brokenRule kn r plan ≡ suc n
+    → LowestBroken kn r plan (suc n)
+broken-is-lowest = broken-lowest
+
+pub lowest-is-broken : (kn : Known) (r : Request) (plan : List ℕ) → 1 ≤ mapWords (kn .shape) → (n : ℕ) → LowestBroken kn r plan n
+    → brokenRule kn r plan ≡ n
+lowest-is-broken = lowest-broken
+
+-- ---- the answer
+
+chunk-good : (g : Shape) (r : Request) → GoodRequest g r → chunkOf r < g .c
+chunk-good g (Write c size) h = h .0
+chunk-good g (Discard c) h = h
+
+good-told : (g : Shape) (r : Request) → chunkOf r < g .c → goodSize g r ≡ true → GoodRequest g r
+good-told g (Write c size) b h =
+    let p = g .p * unitBytes in
+    (b, leb-true 1 size (and-left (leb 1 size) (leb size p) h), leb-true size p (and-right (leb 1 size) (leb size p) h))
+good-told g (Discard c) b h = b
+
+good-tested : (g : Shape) (r : Request) → GoodRequest g r → goodSize g r ≡ true
+good-tested g (Write c size) h =
+    let p = g .p * unitBytes in and-intro (leb 1 size) (leb size p) (le-leb 1 size (h .1)) (le-leb size p (h .2))
+good-tested g (Discard c) h = refl
+
+-- an image's own refusal, whatever follows
+own-told : (s : List ℕ) (r : Request) (plan : List ℕ) (x : Refusal) → Row s x → Refuses s r plan x
+own-told s r plan Short h = h
+own-told s r plan Foreign h = h
+own-told s r plan Geometry h = h
+own-told s r plan (BadLink i) h = h
+own-told s r plan (BadMap i) h = h
+own-told s r plan (Shared i j) h = h
+own-told s r plan Range h = absurd h
+own-told s r plan Size h = absurd h
+own-told s r plan (NoRoom n) h = absurd h
+own-told s r plan (Small n) h = absurd h
+own-told s r plan (BadPlan n) h = absurd h
+own-told s r plan BadAlarm h = absurd h
+
+module _ (s : List ℕ) (r : Request) (plan : List ℕ) where
+  abbrev g : Shape
+  g = shapeOf s
+
+  abbrev kn : Known
+  kn = knownOf s r
+
+  -- what is computed for an image that passed
+  of-passed : verdict s ≡ Passed → checked s r plan ≡ judged s r plan
+  unfolding checked
+  of-passed e = ap (λ (v : Verdict). ifSound v Refused (judged s r plan)) e
+
+  some-word : Sound g s → 1 ≤ mapWords g
+  some-word z = omega (arith, z .limits .p-low)
+
+  -- every refusal and the acceptance, where each is given
+  module _ (z : Sound g s) where
+    judged-told : Answers s r plan (judged s r plan)
+    unfolding judged
+    judged-told = by-chunk (goodChunk g r) refl
+      where
+        by-rules : GoodRequest g r → (n : ℕ) → brokenRule kn r plan ≡ n → Answers s r plan (broken n)
+        by-rules h zero e = (z, h, unbroken-kept kn r plan (some-word z) e)
+        by-rules h (suc n) e = (z, h, broken-lowest kn r plan (some-word z) n e)
+
+        by-size : chunkOf r < g .c → (b : Bool) → goodSize g r ≡ b
+            → Answers s r plan (cond b (broken (brokenRule kn r plan)) (Refused Size))
+        by-size l true e = by-rules (good-told g r l e) (brokenRule kn r plan) refl
+        by-size l false e = (z, l, λ h. contradict (good-tested g r h) e)
+
+        by-chunk : (b : Bool) → goodChunk g r ≡ b
+            → Answers s r plan (cond b (cond (goodSize g r) (broken (brokenRule kn r plan)) (Refused Size)) (Refused Range))
+        by-chunk true e = by-size (ltb-true (chunkOf r) (g .c) e) (goodSize g r) refl
+        by-chunk false e = (z, ltb-false (chunkOf r) (g .c) e)
+
+    judged-range : g .c ≤ chunkOf r → judged s r plan ≡ Refused Range
+    unfolding judged
+    judged-range h = rw (le-ltb (chunkOf r) (g .c) h)
+
+    judged-size : chunkOf r < g .c → (GoodRequest g r → ⊥) → judged s r plan ≡ Refused Size
+    unfolding judged
+    judged-size l h = rw (lt-ltb (chunkOf r) (g .c) l, is-false (goodSize g r) (λ e. h (good-told g r l e)))
+
+    judged-rules : GoodRequest g r → judged s r plan ≡ broken (brokenRule kn r plan)
+    unfolding judged
+    judged-rules h = rw (lt-ltb (chunkOf r) (g .c) (chunk-good g r h), good-tested g r h)
+
+  -- What the checker answers holds: it accepts only where the image is sound, the request good and the five rules kept, and refuses with 11 and place n
+  -- only where rule n is the lowest broken.
+  pub answer-holds : Bytes s → Answers s r plan (checked s r plan)
+  unfolding checked
+  answer-holds b = by-verdict (verdict s) refl
+    where
+      by-verdict : (v : Verdict) → verdict s ≡ v → Answers s r plan (ifSound v Refused (judged s r plan))
+      by-verdict Passed e = judged-told (passed-is-sound s b e)
+      by-verdict (Unsound x) e = own-told s r plan x (refused-is-row s x e)
+
+  -- no rule has the number 0
+  lowest-given : (n : ℕ) → LowestBroken kn r plan n → broken (brokenRule kn r plan) ≡ broken n → broken (brokenRule kn r plan) ≡ Refused (BadPlan n)
+  lowest-given zero l e = absurd (l .broken tt)
+  lowest-given (suc n) l e = e
+
+  own-given : (x : Refusal) → Row s x → checked s r plan ≡ Refused x
+  unfolding checked
+  own-given x h = ap (λ (v : Verdict). ifSound v Refused (judged s r plan)) (row-is-refused s x h)
+
+  given : (x : Refusal) → Refuses s r plan x → checked s r plan ≡ Refused x
+  given Short h = own-given Short h
+  given Foreign h = own-given Foreign h
+  given Geometry h = own-given Geometry h
+  given (BadLink i) h = own-given (BadLink i) h
+  given (BadMap i) h = own-given (BadMap i) h
+  given (Shared i j) h = own-given (Shared i j) h
+  given Range h = of-passed (sound-is-passed g s (h .0) .0) ∙ judged-range (h .0) (h .1)
+  given Size h = of-passed (sound-is-passed g s (h .0) .0) ∙ judged-size (h .0) (h .1) (h .2)
+  given (NoRoom n) h = absurd h
+  given (Small n) h = absurd h
+  given (BadPlan n) h =
+      of-passed (sound-is-passed g s (h .0) .0) ∙ judged-rules (h .0) (h .1) ∙ lowest-given n (h .2)
+      (ap broken (lowest-broken kn r plan (some-word (h .0)) n (h .2)))
+  given BadAlarm h = absurd h
+
+  -- And where an answer holds, it is given.
+  pub holding-is-answered : (c : Checked) → Answers s r plan c → checked s r plan ≡ c
+  holding-is-answered Accepted h =
+      of-passed (sound-is-passed g s (h .0) .0) ∙ judged-rules (h .0) (h .1) ∙ ap broken (kept-unbroken kn r plan (some-word (h .0)) (h .2))
+  holding-is-answered (Refused x) h = given x h
+
+  -- The same, said of acceptance and of refusal 11 alone.
+  pub accepted-is-kept : Bytes s → checked s r plan ≡ Accepted → Sound g s × GoodRequest g r × Kept kn r plan
+  accepted-is-kept b e = subst (Answers s r plan) e (answer-holds b)
+
+  pub kept-is-accepted : Sound g s → GoodRequest g r → Kept kn r plan → checked s r plan ≡ Accepted
+  kept-is-accepted z h k = holding-is-answered Accepted (z, h, k)
+
+  pub bad-plan-is-lowest : Bytes s → (n : ℕ) → checked s r plan ≡ Refused (BadPlan n) → Sound g s × GoodRequest g r × LowestBroken kn r plan n
+  bad-plan-is-lowest b n e = subst (Answers s r plan) e (answer-holds b)
+
+  pub lowest-is-bad-plan : (n : ℕ) → Sound g s → GoodRequest g r → LowestBroken kn r plan n → checked s r plan ≡ Refused (BadPlan n)
+  lowest-is-bad-plan n z h l = holding-is-answered (Refused (BadPlan n)) (z, h, l)
