@@ -1,0 +1,353 @@
+-- The planner's own plans keep every rule of the checker.
+use Prim.Native.Nat.{ℕ, _*_, _%_, _≤_, _<_}
+use native.Mathlib.Omega.{arith}
+use mathlib.Core.Path.{_≡_, refl, ap, sym, _∙_}
+use mathlib.Core.Logic.{⊎-elim}
+use mathlib.Core.Bool.{Bool, true, false, _&&_}
+use mathlib.Core.List.{List, [], _∷_, _++_, map, append-assoc, append-nil}
+use lib.ListN.{length, getD, take}
+use lib.Seq.{length-take-le}
+use lib.Dec.{eqb, ltb, leb}
+use borrow.Author.Tests.{lt-ltb, ltb-true, ltb-false, le-leb, leb-true, eq-eqb, eqb-true}
+use Rattle.search.specs.Search.{below, all, distinct, firstOr}
+use Rattle.search.proofs.Bools.{either, and-left, and-right, and-intro}
+use Rattle.search.proofs.Members.{all-at, all-take, all-first, member-getD}
+use Rattle.search.proofs.Kept.{all-kept}
+use Rattle.search.proofs.Distinct.{distinct-from, distinct-take}
+use Rattle.search.proofs.Ranges.{all-below-intro, length-from}
+use Rattle.layout.specs.declared.Shape.{Shape}
+use Rattle.layout.specs.Layout.{X, mapWords, unitBytes, shapeOf}
+use Rattle.layout.specs.Shaped.{Limits}
+use Rattle.layout.proofs.Limits.{fitting-limits, units-high}
+use Rattle.image.specs.Soundness.{mapped}
+use Rattle.image.specs.Claims.{Tested}
+use Rattle.image.specs.Free.{freeUnit, freeMap, freeUnits, freeMaps}
+use Rattle.image.proofs.Room.{freeUnit-below, freeMap-below, distinct-freeUnits, some-map-free}
+use Rattle.steps.specs.declared.Value.{Value}
+use Rattle.steps.specs.declared.Value.the-variants.{Number, Absent}
+use Rattle.steps.specs.declared.Step.{Step}
+use Rattle.steps.specs.declared.Step.the-variants.{Data, Map, Link, Fence}
+use Rattle.steps.specs.declared.Decoded.{Decoded}
+use Rattle.steps.specs.declared.Decoded.the-variants.{Whole}
+use Rattle.steps.specs.declared.Request.{Request}
+use Rattle.steps.specs.declared.Request.the-variants.{Write, Discard}
+use Rattle.steps.specs.Steps.{stepBytes, unitsFor, needOf, wordOf, decodeAt, stepsOf, encodeAll}
+use Rattle.steps.specs.Encodable.{Each, ValueFits, Fits}
+use Rattle.steps.proofs.Codec.{each-map, decoded, whole-encoded, steps-encoded, length-encoded}
+use Rattle.checker.specs.declared.Checked.the-variants.{Accepted as Accept}
+use Rattle.checker.specs.Rules.{maxSteps, collect, every, pieceIn, unitIn, mapIn, wordIn, linkIn, linkedIn, unitOf, mapFits, planMap, endsIn, beforeLink, afterLink, onceEach, linksAre, valueBelow, inRange, wholeInRange, rule1, rule2, rule3, rule4, rule5, goodChunk, goodSize, checked, pieces, units, maps, words, links, linked}
+use Rattle.checker.proofs.Accepting.{Unbroken, accepted}
+use Rattle.planner.specs.Planner.{dataStep, dataSteps, valueFor, mapStep, mapSteps, linkSteps, writeSteps, planOf}
+use Rattle.planner.proofs.Storing.{length-writeSteps}
+use Rattle.planner.proofs.StepLists.{map-same, map-places, first-same-map, passed-over, drawn, every-of, before-link, each-from, unit-here, unit-past, ends-in-fence}
+
+-- ---- rule 1: a list of steps in range, at most 64 of them, and its bytes
+
+abbrev InRange : Shape → Step → Type 0
+InRange g x = inRange g x ≡ true
+
+module _ (g : Shape) (l : Limits g) where
+  -- a step in range has bytes of its own: the limits leave room for X in a field
+  value-small : (n : ℕ) (v : Value) → n < 4294967295 → valueBelow n v ≡ true → ValueFits v
+  value-small n (Number a) h e = let b = ltb-true a n e in omega arith
+  value-small n Absent h e = tt
+
+  small : (x : Step) → InRange g x → Fits x
+  small (Data u j w) e =
+      let both = and-left (ltb u (g .n) && ltb j (g .p)) (eqb w 0) e in
+      let a = ltb-true u (g .n) (and-left (ltb u (g .n)) (ltb j (g .p)) both) in
+      let b = ltb-true j (g .p) (and-right (ltb u (g .n)) (ltb j (g .p)) both) in
+      let z = eqb-true w 0 (and-right (ltb u (g .n) && ltb j (g .p)) (eqb w 0) e) in
+      (omega (arith, units-high g l), omega (arith, l .p-high), omega arith)
+  small (Map k j v) e =
+      let both = and-left (ltb k (g .m) && ltb j (mapWords g)) (valueBelow (g .n) v) e in
+      let a = ltb-true k (g .m) (and-left (ltb k (g .m)) (ltb j (mapWords g)) both) in
+      let b = ltb-true j (mapWords g) (and-right (ltb k (g .m)) (ltb j (mapWords g)) both) in (
+        omega (arith, l .m-high, l .c-high),
+        omega (arith, l .p-high),
+        value-small (g .n) v (omega (arith, units-high g l)) (and-right (ltb k (g .m) && ltb j (mapWords g)) (valueBelow (g .n) v) e),
+      )
+  small (Link i v) e =
+      let a = ltb-true i (g .c) (and-left (ltb i (g .c)) (valueBelow (g .m) v) e) in
+      (omega (arith, l .c-high), value-small (g .m) v (omega (arith, l .m-high, l .c-high)) (and-right (ltb i (g .c)) (valueBelow (g .m) v) e))
+  small Fence e = tt
+
+  all-whole :
+      (f : ℕ → Decoded) (is : List ℕ) (xs : List Step) → map f is ≡ map Whole xs → Each (InRange g) xs → all (λ i. wholeInRange g (f i)) is ≡ true
+  unfolding all
+  all-whole f [] xs e r = refl
+  all-whole f (i ∷ is) [] e r = absurd (let z : _≡_ {A = ℕ} 0 1 = cc in omega arith)
+  all-whole f (i ∷ is) (x ∷ xs) e r =
+      let here : f i ≡ Whole x = cc in
+      let rest : map f is ≡ map Whole xs = cc in
+      rw here (and-intro (inRange g x) (all (λ k. wholeInRange g (f k)) is) (r .0) (all-whole f is xs rest (r .1)))
+
+  module _ (xs : List Step) (r : Each (InRange g) xs) where
+    fits : Each Fits xs
+    fits = each-map (InRange g) Fits xs small r
+
+    -- its bytes are read back as the steps
+    read-back : stepsOf (encodeAll xs) ≡ xs
+    read-back = steps-encoded xs fits
+
+    rule1-kept : length xs ≤ maxSteps → rule1 g (encodeAll xs) ≡ true
+    unfolding rule1
+    rule1-kept h =
+        let long = length-encoded xs in
+        let even : length (encodeAll xs) % stepBytes ≡ 0 = omega arith in
+        rw (even, whole-encoded xs, le-leb (length xs) maxSteps h) (all-whole (decodeAt (encodeAll xs)) (below (length xs)) xs (decoded xs fits) r)
+
+-- each number below n once
+once-each : (n : ℕ) → onceEach n (below n) ≡ true
+unfolding onceEach
+once-each n = rw (length-from 0 n, eq-eqb n n refl, distinct-from 0 n, all-below-intro (λ j. ltb j n) n (λ j h. lt-ltb j n h))
+
+-- ---- rules 1 to 5 for a write, on any free units and a free map
+
+module _ (s : List ℕ) (i size : ℕ) (us : List ℕ) (m : ℕ) (l : Limits (shapeOf s)) (chunk : i < shapeOf s .c)
+    (need : length us ≡ unitsFor size) (few : unitsFor size ≤ shapeOf s .p) (free : all (freeUnit s) us ≡ true) (differ : distinct us ≡ true)
+    (mfree : freeMap s m ≡ true) where
+  abbrev g : Shape
+  g = shapeOf s
+
+  abbrev k : ℕ
+  k = length us
+
+  abbrev p : ℕ
+  p = mapWords (shapeOf s)
+
+  abbrev xs : List Step
+  xs = writeSteps us m p i
+
+  -- the steps after the DATA steps
+  abbrev later : List Step
+  later = map (mapStep m us) (below p) ++ linkSteps i m
+
+  flat : xs ≡ map (dataStep us) (below k) ++ later
+  unfolding writeSteps dataSteps mapSteps
+  flat = refl
+
+  unit-below : (j : ℕ) → j < k → getD us j 0 < g .n
+  unit-below j h = freeUnit-below s (getD us j 0) (all-at (freeUnit s) us free (getD us j 0) (member-getD us j h))
+
+  -- word j of the map as it is stored
+  word-unit : (j : ℕ) → j < k → wordOf (valueFor us j) ≡ getD us j 0
+  unfolding valueFor
+  word-unit j h = rw (lt-ltb j k h)
+
+  word-past : (j : ℕ) → ltb j k ≡ false → wordOf (valueFor us j) ≡ X
+  unfolding valueFor
+  word-past j h = rw h
+
+  value-in : (j : ℕ) → valueBelow (g .n) (valueFor us j) ≡ true
+  unfolding valueFor
+  value-in j = ⊎-elim (λ e. rw e (lt-ltb (getD us j 0) (g .n) (unit-below j (ltb-true j k e)))) (λ e. rw e) (either (ltb j k))
+
+  in-range : Each (InRange g) xs
+  in-range =
+      let mb : m < g .m = freeMap-below s m mfree in
+      rw flat
+      (each-from (dataStep us) later (InRange g) 0 k
+      (λ j a b. rw (lt-ltb (getD us j 0) (g .n) (unit-below j (omega arith)), lt-ltb j (g .p) (omega arith)))
+      (each-from (mapStep m us) (linkSteps i m) (InRange g) 0 p
+      (λ j a b. rw (lt-ltb m (g .m) mb, lt-ltb j p (omega arith), value-in j))
+      (refl, (rw (lt-ltb i (g .c) chunk, lt-ltb m (g .m) mb), (refl, tt)))))
+
+  steps-few : length xs ≤ maxSteps
+  steps-few = omega (arith, length-writeSteps us m p i, l .p-high)
+
+  pieces-are : pieces xs ≡ below k
+  unfolding collect pieceIn
+  pieces-are =
+      rw flat
+      (drawn (dataStep us) later pieceIn (λ j. j) (λ j. refl) (below k)
+      ∙ rw (passed-over (mapStep m us) (linkSteps i m) (collect pieceIn) (λ j ys. refl) (below p), append-nil (map (λ (j : ℕ). j) (below k)), map-same))
+
+  units-are : units (writeSteps us m (mapWords (shapeOf s)) i) ≡ us
+  unfolding collect unitIn
+  units-are =
+      rw flat
+      (drawn (dataStep us) later unitIn (λ j. getD us j 0) (λ j. refl) (below k)
+      ∙ rw (passed-over (mapStep m us) (linkSteps i m) (collect unitIn) (λ j ys. refl) (below p), append-nil (map (λ (j : ℕ). getD us j 0) (below k)), map-places))
+
+  words-are : words xs ≡ below p
+  unfolding collect wordIn
+  words-are =
+      rw flat
+      (passed-over (dataStep us) later (collect wordIn) (λ j ys. refl) (below k)
+      ∙ drawn (mapStep m us) (linkSteps i m) wordIn (λ j. j) (λ j. refl) (below p)
+      ∙ append-nil (map (λ (j : ℕ). j) (below p))
+      ∙ map-same (below p))
+
+  map-is : planMap (writeSteps us m (mapWords (shapeOf s)) i) ≡ m
+  unfolding planMap collect mapIn
+  map-is =
+      ap (firstOr X)
+      (ap maps flat ∙ passed-over (dataStep us) later (collect mapIn) (λ j ys. refl) (below k)
+      ∙ drawn (mapStep m us) (linkSteps i m) mapIn (λ j. m) (λ j. refl) (below p)
+      ∙ append-nil (map (λ (j : ℕ). m) (below p)))
+      ∙ first-same-map m X 0 p (omega (arith, l .p-low))
+
+  links-are : links xs ≡ i ∷ []
+  unfolding collect linkIn
+  links-are =
+      rw flat
+      (passed-over (dataStep us) later (collect linkIn) (λ j ys. refl) (below k)
+      ∙ passed-over (mapStep m us) (linkSteps i m) (collect linkIn) (λ j ys. refl) (below p))
+
+  linked-are : linked xs ≡ m ∷ []
+  unfolding collect linkedIn
+  linked-are =
+      rw flat
+      (passed-over (dataStep us) later (collect linkedIn) (λ j ys. refl) (below k)
+      ∙ passed-over (mapStep m us) (linkSteps i m) (collect linkedIn) (λ j ys. refl) (below p))
+
+  unit-of : (j : ℕ) → unitOf j xs ≡ wordOf (valueFor us j)
+  unfolding unitOf
+  unit-of j =
+      ap (unitOf j) flat
+      ∙ ⊎-elim
+      (λ e. let h = ltb-true j k e in unit-here (λ a. getD us a 0) later j 0 k (omega arith) (omega arith) ∙ sym (word-unit j h))
+      (λ e.
+      let h = ltb-false j k e in
+      unit-past (λ a. getD us a 0) later j 0 k (omega arith) ∙ passed-over (mapStep m us) (linkSteps i m) (unitOf j) (λ a ys. refl) (below p)
+      ∙ sym (word-past j e))
+      (either (ltb j k))
+
+  stores : every (mapFits m (freeMap s) (λ j. unitOf j xs)) xs ≡ true
+  unfolding every mapFits
+  stores =
+      let test = mapFits m (freeMap s) (λ j. unitOf j xs) in
+      ap (every test) flat
+      ∙ every-of (dataStep us) later test (λ j. refl) (below k)
+      ∙ every-of (mapStep m us) (linkSteps i m) test
+      (λ j. rw (eq-eqb m m refl, mfree, eq-eqb (wordOf (valueFor us j)) (unitOf j xs) (sym (unit-of j)))) (below p)
+
+  before : beforeLink xs ≡ (map (dataStep us) (below k) ++ map (mapStep m us) (below p)) ++ (Fence ∷ [])
+  unfolding beforeLink
+  before =
+      ap beforeLink flat
+      ∙ before-link (dataStep us) later (λ j ys. refl) (below k)
+      ∙ ap (λ (ys : List Step). map (dataStep us) (below k) ++ ys) (before-link (mapStep m us) (linkSteps i m) (λ j ys. refl) (below p))
+      ∙ sym (append-assoc (map (dataStep us) (below k)) (map (mapStep m us) (below p)) (Fence ∷ []))
+
+  after : afterLink xs ≡ Fence ∷ []
+  unfolding afterLink
+  after =
+      ap afterLink flat
+      ∙ passed-over (dataStep us) later afterLink (λ j ys. refl) (below k)
+      ∙ passed-over (mapStep m us) (linkSteps i m) afterLink (λ j ys. refl) (below p)
+
+  two : rule2 (freeUnit s) (Write i size) xs ≡ true
+  unfolding rule2
+  two = rw (pieces-are, units-are, ← need, once-each k, differ, free)
+
+  three : rule3 p (freeMap s) (Write i size) xs ≡ true
+  unfolding rule3
+  three = rw (words-are, once-each p, map-is, stores)
+
+  four : rule4 (mapped s i) (Write i size) xs ≡ true
+  unfolding rule4 linksAre all
+  four = rw (links-are, map-is, linked-are, eq-eqb i i refl, eq-eqb m m refl)
+
+  five : rule5 (mapped s i) (Write i size) xs ≡ true
+  unfolding rule5 endsIn collect unitIn mapIn
+  five = rw (before, after, ends-in-fence false (map (dataStep us) (below k) ++ map (mapStep m us) (below p)))
+
+  write-unbroken : Unbroken s (Write i size) (encodeAll (writeSteps us m (mapWords (shapeOf s)) i))
+  write-unbroken =
+      let back = read-back g l xs in-range in
+      record {
+        one = rule1-kept g l xs in-range steps-few;
+        two = rw back two;
+        three = rw back three;
+        four = rw back four;
+        five = rw back five;
+      }
+
+-- ---- for a discard
+
+module _ (s : List ℕ) (i : ℕ) (l : Limits (shapeOf s)) (chunk : i < shapeOf s .c) where
+  discard-unbroken : Unbroken s (Discard i) (encodeAll (planOf s (Discard i)))
+  unfolding planOf rule2 rule3 rule4 rule5 linksAre onceEach every collect pieceIn unitIn mapIn wordIn linkIn linkedIn mapFits endsIn all distinct
+  discard-unbroken = go (mapped s i) refl
+    where
+      go : (b : Bool) → mapped s i ≡ b → Unbroken s (Discard i) (encodeAll (planOf s (Discard i)))
+      go true e =
+          let xs : List Step = Link i Absent ∷ Fence ∷ [] in
+          let r : Each (InRange (shapeOf s)) xs = (rw (lt-ltb i (shapeOf s .c) chunk), (refl, tt)) in
+          let back = read-back (shapeOf s) l xs r in
+          rw e (record {
+            one = rule1-kept (shapeOf s) l xs r (omega arith);
+            two = rw back;
+            three = rw back;
+            four = rw (back, e, eq-eqb i i refl);
+            five = rw (back, e);
+          })
+      go false e =
+          let back = read-back (shapeOf s) l [] tt in
+          rw e (record {
+            one = rule1-kept (shapeOf s) l [] tt (omega arith);
+            two = rw back;
+            three = rw back;
+            four = rw (back, e);
+            five = rw (back, e);
+          })
+
+-- ---- on every sound image, for every good request with room
+
+module _ (s : List ℕ) (i size : ℕ) (z : Tested s) (gc : goodChunk (shapeOf s) (Write i size) ≡ true) (gs : goodSize (shapeOf s) (Write i size) ≡ true)
+    (room : unitsFor size ≤ length (freeUnits s)) where
+  abbrev us : List ℕ
+  us = take (unitsFor size) (freeUnits s)
+
+  abbrev m : ℕ
+  m = firstOr X (freeMaps s)
+
+  l : Limits (shapeOf s)
+  l = fitting-limits s (z .fitting)
+
+  low : i < shapeOf s .c
+  low = ltb-true i (shapeOf s .c) gc
+
+  taken : length us ≡ unitsFor size
+  taken = length-take-le (unitsFor size) (freeUnits s) room
+
+  few : unitsFor size ≤ shapeOf s .p
+  few =
+      let p = shapeOf s .p in
+      let high = leb-true size (p * unitBytes) (and-right (leb 1 size) (leb size (p * unitBytes)) gs) in
+      omega arith
+
+  units-free : all (freeUnit s) us ≡ true
+  unfolding freeUnits
+  units-free = all-take (freeUnit s) (unitsFor size) (freeUnits s) (all-kept (freeUnit s) (below (shapeOf s .n)))
+
+  units-differ : distinct us ≡ true
+  units-differ = distinct-take (unitsFor size) (freeUnits s) (distinct-freeUnits s)
+
+  map-free : freeMap s m ≡ true
+  unfolding freeMaps
+  map-free = all-first (freeMap s) X (freeMaps s) (all-kept (freeMap s) (below (shapeOf s .m))) (some-map-free s (z .fitting))
+
+  plan-unbroken : Unbroken s (Write i size) (encodeAll (planOf s (Write i size)))
+  unfolding planOf
+  plan-unbroken = write-unbroken s i size us m l low taken few units-free units-differ map-free
+
+  -- the units and the map that the plan takes
+  pub plan-units : units (planOf s (Write i size)) ≡ take (unitsFor size) (freeUnits s)
+  unfolding planOf
+  plan-units = units-are s i size us m l low taken few units-free units-differ map-free
+
+  pub plan-map : planMap (planOf s (Write i size)) ≡ firstOr X (freeMaps s)
+  unfolding planOf
+  plan-map = map-is s i size us m l low taken few units-free units-differ map-free
+
+pub planned-accepted :
+    (s : List ℕ) (r : Request) → Tested s → goodChunk (shapeOf s) r ≡ true → goodSize (shapeOf s) r ≡ true → needOf r ≤ length (freeUnits s)
+    → checked s r (encodeAll (planOf s r)) ≡ Accept
+planned-accepted s (Write i size) z gc gs room =
+    accepted s (Write i size) (encodeAll (planOf s (Write i size))) (record { sound = z; chunk = gc; size = gs; rules = plan-unbroken s i size z gc gs room })
+planned-accepted s (Discard i) z gc gs room =
+    accepted s (Discard i) (encodeAll (planOf s (Discard i)))
+    (record { sound = z; chunk = gc; size = gs; rules = discard-unbroken s i (fitting-limits s (z .fitting)) (ltb-true i (shapeOf s .c) gc) })

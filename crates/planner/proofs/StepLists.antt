@@ -1,0 +1,92 @@
+-- What the rules read off steps that a function gives, one for each number of a list, before other steps t.
+use Prim.Native.Nat.{ℕ, zero, suc, _+_, _≤_, _<_}
+use native.Mathlib.Omega.{arith}
+use mathlib.Core.Path.{_≡_, refl, ap, _∙_}
+use mathlib.Core.Logic.{⊎-elim}
+use mathlib.Core.Bool.{Bool, true}
+use mathlib.Core.List.{List, [], _∷_, _++_, map}
+use lib.ListN.{length, getD}
+use lib.Seq.{ext-getD}
+use lib.Dec.{eqb}
+use borrow.Author.Tests.{eqb-true, eqb-false, ne-eqb}
+use Rattle.search.specs.Search.{from, below, firstOr}
+use Rattle.search.proofs.Bools.{either, cond-true, cond-false}
+use Rattle.search.proofs.Mapping.{length-map-from, getD-map-below}
+use Rattle.steps.specs.declared.Step.{Step}
+use Rattle.steps.specs.declared.Step.the-variants.{Data, Fence}
+use Rattle.steps.specs.Encodable.{Each}
+use Rattle.checker.specs.Rules.{collect, every, unitOf, endsIn, isFence, beforeLink}
+
+-- ---- numbers
+
+pub map-same : (js : List ℕ) → map (λ (j : ℕ). j) js ≡ js
+map-same [] = refl
+map-same (j ∷ js) = ap (λ (l : List ℕ). j ∷ l) (map-same js)
+
+pub map-places : (us : List ℕ) → map (λ j. getD us j 0) (below (length us)) ≡ us
+map-places us =
+    ext-getD 0 (map (λ j. getD us j 0) (below (length us))) us (length-map-from (λ j. getD us j 0) 0 (length us)) λ j h.
+    let k = length-map-from (λ j. getD us j 0) 0 (length us) in getD-map-below (λ j. getD us j 0) (length us) j 0 (omega arith)
+
+pub first-same-map : (m d a n : ℕ) → 0 < n → firstOr d (map (λ (j : ℕ). m) (from a n)) ≡ m
+unfolding from
+first-same-map m d a zero h = absurd (omega arith)
+first-same-map m d a (suc n) h = refl
+
+-- ---- steps
+
+module _ (f : ℕ → Step) (t : List Step) where
+  -- a function that passes over each of them
+  pub passed-over : {A : Type 0} (F : List Step → A) → ((j : ℕ) (ys : List Step) → F (f j ∷ ys) ≡ F ys) → (js : List ℕ) → F (map f js ++ t) ≡ F t
+  passed-over F h [] = refl
+  passed-over F h (j ∷ js) = h j (map f js ++ t) ∙ passed-over F h js
+
+  -- one number of each
+  pub drawn : (sel : Step → List ℕ) (h : ℕ → ℕ) → ((j : ℕ) → sel (f j) ≡ h j ∷ []) → (js : List ℕ) → collect sel (map f js ++ t) ≡ map h js ++ collect sel t
+  unfolding collect
+  drawn sel h e [] = refl
+  drawn sel h e (j ∷ js) = rw (e j) (ap (λ (l : List ℕ). h j ∷ l) (drawn sel h e js))
+
+  pub every-of : (test : Step → Bool) → ((j : ℕ) → test (f j) ≡ true) → (js : List ℕ) → every test (map f js ++ t) ≡ every test t
+  unfolding every
+  every-of test e [] = refl
+  every-of test e (j ∷ js) = rw (e j) (every-of test e js)
+
+  pub before-link : ((j : ℕ) (ys : List Step) → beforeLink (f j ∷ ys) ≡ f j ∷ beforeLink ys) → (js : List ℕ) → beforeLink (map f js ++ t) ≡ map f js ++ beforeLink t
+  before-link h [] = refl
+  before-link h (j ∷ js) = h j (map f js ++ t) ∙ ap (λ (l : List Step). f j ∷ l) (before-link h js)
+
+  pub each-from : (P : Step → Type 0) (a n : ℕ) → ((j : ℕ) → a ≤ j → j < a + n → P (f j)) → Each P t → Each P (map f (from a n) ++ t)
+  unfolding from
+  each-from P a zero h r = r
+  each-from P a (suc n) h r = (h a (omega arith) (omega arith), each-from P (suc a) n (λ j p q. h j (omega arith) (omega arith)) r)
+
+apart : (a j : ℕ) → (a ≡ j → ⊥) → a ≤ j → suc a ≤ j
+apart a j ne h = omega arith
+
+-- the unit of a piece, where piece j is on unit f j
+module _ (f : ℕ → ℕ) (t : List Step) (j : ℕ) where
+  abbrev piece : ℕ → Step
+  piece i = Data (f i) i 0
+
+  pub unit-here : (a n : ℕ) → a ≤ j → j < a + n → unitOf j (map piece (from a n) ++ t) ≡ f j
+  unfolding unitOf from
+  unit-here a zero h l = absurd (omega arith)
+  unit-here a (suc n) h l =
+      ⊎-elim (λ e. cond-true (eqb a j) (f a) (unitOf j (map piece (from (suc a) n) ++ t)) e ∙ ap f (eqb-true a j e))
+      (λ e.
+      let ne = eqb-false a j e in
+      let low : suc a ≤ j = apart a j ne h in
+      cond-false (eqb a j) (f a) (unitOf j (map piece (from (suc a) n) ++ t)) e ∙ unit-here (suc a) n low (omega arith))
+      (either (eqb a j))
+
+  pub unit-past : (a n : ℕ) → a + n ≤ j → unitOf j (map piece (from a n) ++ t) ≡ unitOf j t
+  unfolding unitOf from
+  unit-past a zero h = refl
+  unit-past a (suc n) h =
+      cond-false (eqb a j) (f a) (unitOf j (map piece (from (suc a) n) ++ t)) (ne-eqb a j (λ e. omega arith)) ∙ unit-past (suc a) n (omega arith)
+
+pub ends-in-fence : (b : Bool) (xs : List Step) → endsIn b (xs ++ (Fence ∷ [])) ≡ true
+unfolding endsIn
+ends-in-fence b [] = refl
+ends-in-fence b (x ∷ xs) = ends-in-fence (isFence x) xs

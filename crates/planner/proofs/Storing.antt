@@ -1,0 +1,101 @@
+-- The planner's steps stored in a plan's bytes, one after the other.
+use Prim.Native.Nat.{ℕ, _+_, _-_, _≤_, _<_}
+use native.Mathlib.Nat.{add-assoc, add-zero, sub-zero}
+use native.Mathlib.Omega.{arith}
+use mathlib.Core.Path.{_≡_, ap, sym, _∙_}
+use mathlib.Core.List.{List, [], _∷_, _++_, map}
+use lib.ListN.{length, getD, take, drop, replicate, length-append}
+use lib.Seq.{sets, getD-take, length-take-le, take-at}
+use borrow.Author.Tests.{lt-ltb, le-ltb}
+use Rattle.words.proofs.Laws.{sets-front}
+use Rattle.search.specs.Search.{from, below}
+use Rattle.search.proofs.Ranges.{from-next, from-end}
+use Rattle.search.proofs.Mapping.{length-map-from}
+use Rattle.steps.specs.declared.Value.the-variants.{Number, Absent}
+use Rattle.steps.specs.declared.Step.{Step}
+use Rattle.steps.specs.declared.Step.the-variants.{Data, Link, Fence}
+use Rattle.steps.specs.Steps.{putSteps}
+use Rattle.steps.proofs.Encoding.{putSteps-none, putSteps-cons, putSteps-append}
+use Rattle.planner.specs.Planner.{dataStep, dataSteps, valueFor, mapStep, mapSteps, linkSteps, writeSteps}
+
+-- ---- a loop that stores step f j in turn j, from step `at` on
+
+module _ (f : ℕ → Step) (out : List ℕ) (at n : ℕ) where
+  pub steps-start : putSteps out (at + 0) (map f (from 0 (n - 0))) ≡ putSteps out at (map f (below n))
+  steps-start = rw (add-zero, sub-zero)
+
+  module _ (j : ℕ) where
+    pub steps-turn :
+        j < n
+        → putSteps (putSteps out (at + j) (f j ∷ [])) (at + (j + 1)) (map f (from (j + 1) (n - (j + 1)))) ≡ putSteps out (at + j) (map f (from j (n - j)))
+    steps-turn h =
+        rw (from-next j n h, ← add-assoc at j 1) (putSteps-cons out (at + j) (f j) (map f (from (j + 1) (n - (j + 1)))))
+
+    pub steps-end : n ≤ j → putSteps out (at + j) (map f (from j (n - j))) ≡ out
+    steps-end h = rw (from-end j n h) (putSteps-none out (at + j))
+
+-- ---- what a turn stores, of the first k of the units
+
+module _ (us : List ℕ) (k : ℕ) (h : k ≤ length us) (j : ℕ) where
+  taken : length (take k us) ≡ k
+  taken = length-take-le k us h
+
+  pub data-here : j < k → Data (getD us j 0) j 0 ≡ dataStep (take k us) j
+  data-here l = rw (getD-take k us j 0 l)
+
+  pub value-unit : j < k → Number (getD us j 0) ≡ valueFor (take k us) j
+  unfolding valueFor
+  value-unit l = rw (taken, lt-ltb j k l, getD-take k us j 0 l)
+
+  pub value-past : k ≤ j → Absent ≡ valueFor (take k us) j
+  unfolding valueFor
+  value-past l = rw (taken, le-ltb j k l)
+
+pub data-are : (us : List ℕ) (k : ℕ) → k ≤ length us → dataSteps (take k us) ≡ map (dataStep (take k us)) (below k)
+unfolding dataSteps
+data-are us k h = ap (λ (n : ℕ). map (dataStep (take k us)) (below n)) (length-take-le k us h)
+
+-- ---- the parts of a write's plan
+
+pub length-dataSteps : (us : List ℕ) → length (dataSteps us) ≡ length us
+unfolding dataSteps
+length-dataSteps us = length-map-from (dataStep us) 0 (length us)
+
+pub length-mapSteps : (m : ℕ) (us : List ℕ) (words : ℕ) → length (mapSteps m us words) ≡ words
+unfolding mapSteps
+length-mapSteps m us words = length-map-from (mapStep m us) 0 words
+
+-- "That is k+P+3 steps"
+pub length-writeSteps : (us : List ℕ) (m words i : ℕ) → length (writeSteps us m words i) ≡ length us + words + 3
+unfolding writeSteps
+length-writeSteps us m words i =
+    let a = length-append (dataSteps us) (mapSteps m us words ++ linkSteps i m) in
+    let b = length-append (mapSteps m us words) (linkSteps i m) in
+    omega (arith, a, b, length-dataSteps us, length-mapSteps m us words)
+
+module _ (out : List ℕ) where
+  pub link-stored :
+      (at i m : ℕ)
+      → putSteps (putSteps (putSteps out at (Fence ∷ [])) (at + 1) (Link i (Number m) ∷ [])) (at + 2) (Fence ∷ []) ≡ putSteps out at (linkSteps i m)
+  link-stored at i m =
+      ap (λ n. putSteps (putSteps (putSteps out at (Fence ∷ [])) (at + 1) (Link i (Number m) ∷ [])) n (Fence ∷ [])) (sym (add-assoc at 1 1))
+      ∙ putSteps-cons (putSteps out at (Fence ∷ [])) (at + 1) (Link i (Number m)) (Fence ∷ [])
+      ∙ putSteps-cons out at Fence (Link i (Number m) ∷ Fence ∷ [])
+
+  pub write-stored :
+      (us : List ℕ) (k m words i : ℕ) → length us ≡ k
+      → putSteps (putSteps (putSteps out 0 (dataSteps us)) k (mapSteps m us words)) (k + words) (linkSteps i m) ≡ putSteps out 0 (writeSteps us m words i)
+  unfolding writeSteps
+  write-stored us k m words i e =
+      let d = putSteps-append out 0 (dataSteps us) (mapSteps m us words ++ linkSteps i m) in
+      let q = putSteps-append (putSteps out 0 (dataSteps us)) k (mapSteps m us words) (linkSteps i m) in
+      let at : 0 + length (dataSteps us) ≡ k = omega (arith, length-dataSteps us) in
+      sym (d ∙ ap (λ (n : ℕ). putSteps (putSteps out 0 (dataSteps us)) n (mapSteps m us words ++ linkSteps i m)) at
+      ∙ q ∙ rw (length-mapSteps m us words))
+
+-- the k units that were stored in a list of zeros
+pub stored-units : (l : List ℕ) (k : ℕ) → k ≤ 16 → k ≤ length l → take k (sets (replicate 16 0) 0 (take k l)) ≡ take k l
+stored-units l k h e =
+    let n = length-take-le k l e in
+    let fits : length (take k l) ≤ 16 = omega arith in
+    rw (sets-front (replicate 16 0) (take k l) fits) (take-at (take k l) (drop (length (take k l)) (replicate 16 0)) k n)

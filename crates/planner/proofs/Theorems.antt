@@ -1,0 +1,186 @@
+-- The theorems of this crate that a reader wants: nothing else cites them.
+use Prim.Native.Nat.{ℕ, _+_, _*_, _≤_, _<_}
+use native.Mathlib.Omega.{arith}
+use mathlib.Core.Path.{_≡_, refl, ap, sym, subst, _∙_}
+use mathlib.Core.Bool.{Bool, true, false, cond}
+use mathlib.Core.List.{List, [], _∷_}
+use lib.ListN.{length, take, drop}
+use lib.Seq.{length-take-le, take-at}
+use lib.Dec.{ltb, leb}
+use borrow.Author.Tests.{lt-ltb, ltb-true, ltb-false, leb-true}
+use Rattle.search.specs.Search.{firstOr}
+use Rattle.search.proofs.Bools.{and-right}
+use Rattle.layout.specs.declared.Refusal.{Refusal}
+use Rattle.layout.specs.declared.Refusal.the-variants.{Range, Size, NoRoom, Small}
+use Rattle.layout.specs.Layout.{X, unitBytes, shapeOf}
+use Rattle.layout.proofs.Limits.{fitting-limits}
+use Rattle.image.specs.declared.Verdict.{Verdict}
+use Rattle.image.specs.declared.Verdict.the-variants.{Passed, Refused as Unsound}
+use Rattle.image.specs.Claims.{Tested}
+use Rattle.image.specs.Verdicts.{verdict}
+use Rattle.image.specs.Free.{freeUnit, freeMap, freeUnits, freeMaps}
+use Rattle.image.specs.Answers.{ifSound}
+use Rattle.image.proofs.SoundLaws.{passed-tested, tested-passed}
+use Rattle.image.proofs.Refusing.{refused-row}
+use Rattle.image.proofs.Room.{freeUnit-below, freeMap-below, some-map-free, units-free}
+use Rattle.steps.specs.declared.Request.{Request}
+use Rattle.steps.specs.declared.Request.the-variants.{Write, Discard}
+use Rattle.steps.specs.Steps.{stepBytes, unitsFor, needOf, encodeAll}
+use Rattle.steps.proofs.Codec.{length-encoded}
+use Rattle.checker.specs.declared.Checked.the-variants.{Accepted}
+use Rattle.checker.specs.Rules.{units, planMap, goodChunk, goodSize, checked}
+use Rattle.planner.specs.declared.Planned.{Planned}
+use Rattle.planner.specs.declared.Planned.the-variants.{Steps, Refused}
+use Rattle.planner.specs.Planner.{planOf, planIn, planAnswer, written, planOut}
+use Rattle.planner.specs.Lowest.{Lowest}
+use Rattle.planner.proofs.Storing.{length-writeSteps}
+use Rattle.planner.proofs.LowestLaws.{taken-lowest}
+use Rattle.planner.proofs.Accepted.{plan-units, plan-map, planned-accepted}
+
+-- ---- what an answer says
+
+-- the request is good, on a sound image
+pub record Good (s : List ℕ) (r : Request) : Type 0 where
+  pub sound : Tested s
+  pub chunk : goodChunk (shapeOf s) r ≡ true
+  pub size : goodSize (shapeOf s) r ≡ true
+
+-- and n steps were written
+pub record Answered (s : List ℕ) (r : Request) (room n : ℕ) : Type 0 where
+  pub good : Good s r
+  pub free : needOf r ≤ length (freeUnits s)
+  pub steps : n ≡ length (planOf s r)
+  pub fits : stepBytes * n ≤ room
+
+impossible : {A : Type 0} → _≡_ {A = ℕ} 0 1 → A
+impossible e = absurd (omega arith)
+
+-- the four tests of a request on a sound image
+abbrev tests : Bool → Bool → Bool → Bool → ℕ → ℕ → Planned
+tests a b c d free steps = cond a (cond b (cond c (Refused (NoRoom free)) (cond d (Refused (Small (stepBytes * steps))) (Steps steps))) (Refused Size)) (Refused Range)
+
+steps-found : (a b c d : Bool) (free steps n : ℕ) → tests a b c d free steps ≡ Steps n → (a ≡ true) × (b ≡ true) × (c ≡ false) × (d ≡ false) × (steps ≡ n)
+steps-found true true false false free steps n e = (refl, refl, refl, refl, cc)
+steps-found true true false true free steps n e = impossible cc
+steps-found true true true d free steps n e = impossible cc
+steps-found true false c d free steps n e = impossible cc
+steps-found false b c d free steps n e = impossible cc
+
+room-found : (a b c d : Bool) (free steps n : ℕ) → tests a b c d free steps ≡ Refused (NoRoom n) → (a ≡ true) × (b ≡ true) × (c ≡ true) × (free ≡ n)
+room-found true true true d free steps n e = (refl, refl, refl, cc)
+room-found true true false true free steps n e = impossible cc
+room-found true true false false free steps n e = impossible cc
+room-found true false c d free steps n e = impossible cc
+room-found false b c d free steps n e = impossible cc
+
+module _ (s : List ℕ) (r : Request) (room n : ℕ) where
+  pub answered : planAnswer s r room ≡ Steps n → Answered s r room n
+  unfolding planIn
+  answered e = at (verdict s) refl e
+    where
+      at : (v : Verdict) → verdict s ≡ v → ifSound v Refused (planIn s r room) ≡ Steps n → Answered s r room n
+      at (Unsound x) p h = impossible cc
+      at Passed p h =
+          let steps = length (planOf s r) in
+          let f = steps-found (goodChunk (shapeOf s) r) (goodSize (shapeOf s) r) (ltb (length (freeUnits s)) (needOf r)) (ltb room (stepBytes * steps))
+          (length (freeUnits s)) steps n h in
+          record {
+            good = record { sound = passed-tested s p; chunk = f .0; size = f .1 };
+            free = ltb-false (length (freeUnits s)) (needOf r) (f .2);
+            steps = sym (f .4);
+            fits = let k = ltb-false room (stepBytes * steps) (f .3) in let z = f .4 in omega arith;
+          }
+
+-- ---- "the planner's plans pass"
+
+-- Whenever the planner answers n steps, the checker accepts the bytes of those n, as they then stand in the lent output, for the image and the request
+-- they were made for.
+pub own-plans-pass : (s : List ℕ) (r : Request) (out : List ℕ) (n : ℕ) → planAnswer s r (length out) ≡ Steps n
+    → checked s r (take (stepBytes * n) (planOut s r out)) ≡ Accepted
+own-plans-pass s r out n e =
+    let a = answered s r (length out) n e in
+    let xs = planOf s r in
+    let bytes : planOut s r out ≡ written (Steps n) xs out = ap (λ (q : Planned). written q xs out) e in
+    let long : length (encodeAll xs) ≡ stepBytes * n = length-encoded xs ∙ ap (λ (k : ℕ). stepBytes * k) (sym (a .steps)) in
+    let front = ap (take (stepBytes * n)) bytes ∙ take-at (encodeAll xs) (drop (stepBytes * n) out) (stepBytes * n) long in
+    ap (checked s r) front ∙ planned-accepted s r (a .good .sound) (a .good .chunk) (a .good .size) (a .free)
+
+-- ---- 9 "fewer than k units free"
+
+module _ (s : List ℕ) (r : Request) (room : ℕ) where
+  -- It is given exactly for a good request on a sound image that needs more units than are free, with the count of those.
+  pub refused-is-no-room : (n : ℕ) → planAnswer s r room ≡ Refused (NoRoom n) → Good s r × (n ≡ length (freeUnits s)) × (n < needOf r)
+  unfolding planIn
+  refused-is-no-room n e = at (verdict s) refl e
+    where
+      of-image : (x : Refusal) → verdict s ≡ Unsound x → Refused x ≡ Refused (NoRoom n) → ⊥
+      of-image x p h = let q : x ≡ NoRoom n = cc in refused-row s (NoRoom n) (p ∙ ap Unsound q)
+
+      at : (v : Verdict) → verdict s ≡ v → ifSound v Refused (planIn s r room) ≡ Refused (NoRoom n) → Good s r × (n ≡ length (freeUnits s)) × (n < needOf r)
+      at (Unsound x) p h = absurd (of-image x p h)
+      at Passed p h =
+          let steps = length (planOf s r) in
+          let f = room-found (goodChunk (shapeOf s) r) (goodSize (shapeOf s) r) (ltb (length (freeUnits s)) (needOf r)) (ltb room (stepBytes * steps))
+          (length (freeUnits s)) steps n h in
+          let low = ltb-true (length (freeUnits s)) (needOf r) (f .2) in
+          let z = f .3 in
+          (record { sound = passed-tested s p; chunk = f .0; size = f .1 }, sym z, omega arith)
+
+  pub no-room-is-refused : Good s r → length (freeUnits s) < needOf r → planAnswer s r room ≡ Refused (NoRoom (length (freeUnits s)))
+  unfolding planIn
+  no-room-is-refused g h = rw (tested-passed s (g .sound), g .chunk, g .size, lt-ltb (length (freeUnits s)) (needOf r) h)
+
+-- a good request needs at most P units
+need-few : (s : List ℕ) (r : Request) → Good s r → needOf r ≤ shapeOf s .p
+need-few s (Write i size) g =
+    let p = shapeOf s .p in
+    let h = leb-true size (p * unitBytes) (and-right (leb 1 size) (leb size (p * unitBytes)) (g .size)) in
+    omega arith
+need-few s (Discard i) g = omega arith
+
+-- "With N at least (C+1)·P it never does for one write."
+pub always-room : (s : List ℕ) (r : Request) (room n : ℕ) → (shapeOf s .c + 1) * shapeOf s .p ≤ shapeOf s .n → planAnswer s r room ≡ Refused (NoRoom n) → ⊥
+always-room s r room n h e =
+    let f = refused-is-no-room s r room n e in
+    let q : n ≡ length (freeUnits s) = f .1 in
+    let low : n < needOf r = f .2 in
+    omega (arith, units-free s h, need-few s r (f .0))
+
+-- ---- the planner's write: "on the k lowest free units, rising; .. the lowest free map"
+
+first-taken : (d : ℕ) (xs : List ℕ) → 0 < length xs → take 1 xs ≡ firstOr d xs ∷ []
+first-taken d [] h = absurd (omega arith)
+first-taken d (x ∷ xs) h = refl
+
+module _ (s : List ℕ) (i size room n : ℕ) (e : planAnswer s (Write i size) room ≡ Steps n) where
+  told : Answered s (Write i size) room n
+  told = answered s (Write i size) room n e
+
+  pub on-lowest-units : Lowest (freeUnit s) (unitsFor size) (units (planOf s (Write i size)))
+  unfolding freeUnits
+  on-lowest-units =
+      let g = told .good in
+      subst (Lowest (freeUnit s) (unitsFor size)) (sym (plan-units s i size (g .sound) (g .chunk) (g .size) (told .free)))
+      (taken-lowest (freeUnit s) (shapeOf s .n) (unitsFor size) (freeUnit-below s) (told .free))
+
+  pub on-lowest-map : Lowest (freeMap s) 1 (planMap (planOf s (Write i size)) ∷ [])
+  unfolding freeMaps
+  on-lowest-map =
+      let g = told .good in
+      let some = some-map-free s (g .sound .fitting) in
+      subst (Lowest (freeMap s) 1)
+      (first-taken X (freeMaps s) some ∙ ap (λ (m : ℕ). m ∷ []) (sym (plan-map s i size (g .sound) (g .chunk) (g .size) (told .free))))
+      (taken-lowest (freeMap s) (shapeOf s .m) 1 (freeMap-below s) some)
+
+  -- "That is k+P+3 steps, at most 35."
+  pub steps-counted : (n ≡ unitsFor size + shapeOf s .p + 3) × (n ≤ 35)
+  unfolding planOf
+  steps-counted =
+      let g = told .good in
+      let k = unitsFor size in
+      let c = told .steps in
+      let a = length-writeSteps (take k (freeUnits s)) (firstOr X (freeMaps s)) (shapeOf s .p) i in
+      let b = length-take-le k (freeUnits s) (told .free) in
+      let f = need-few s (Write i size) g in
+      let l = fitting-limits s (g .sound .fitting) in
+      (omega arith, omega (arith, l .p-high))
