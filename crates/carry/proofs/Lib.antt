@@ -1,0 +1,4 @@
+pub mod CarryLaws
+pub mod Turns
+pub mod AnswerLaws
+pub mod Theorems

@@ -1,0 +1,54 @@
+-- Carrying out the first n steps of a plan: what it answers, and every byte of the image afterwards.
+use Prim.Native.Nat.{ℕ}
+use mathlib.Core.Bool.{cond}
+use mathlib.Core.List.{List, [], _∷_}
+use lib.Dec.{ltb}
+use lib.ListN.{take}
+use Rattle.layout.specs.declared.Refusal.the-variants.{Range}
+use Rattle.layout.specs.Layout.{shapeOf, putWord, mapWordPlace}
+use Rattle.image.specs.Verdicts.{verdict}
+use Rattle.image.specs.Answers.{ifSound}
+use Rattle.steps.specs.declared.Step.{Step}
+use Rattle.steps.specs.declared.Step.the-variants.{Data, Map, Link, Fence}
+use Rattle.steps.specs.declared.Request.{Request}
+use Rattle.steps.specs.Steps.{wordOf, stepsOf, wholeSteps}
+use Rattle.checker.specs.declared.Checked.{Checked}
+use Rattle.checker.specs.declared.Checked.the-variants.{Accepted, Refused as Denied}
+use Rattle.checker.specs.Rules.{judged}
+
+-- ---- the image: "stores the MAP and LINK words of those n and no other byte. DATA is the caller's."
+
+-- after one step
+abbrev pub carry : List ℕ → Step → List ℕ
+carry s (Data u j w) = s
+carry s (Map k j v) = putWord s (mapWordPlace (shapeOf s) k j) (wordOf v)
+carry s (Link i v) = putWord s i (wordOf v)
+carry s Fence = s
+
+-- after one step and then the others
+unfoldable pub carryAll : List ℕ → List Step → List ℕ
+carryAll s [] = s
+carryAll s (x ∷ xs) = carryAll (carry s x) xs
+
+-- after the first n steps of a plan
+unfoldable pub carried : List ℕ → List ℕ → ℕ → List ℕ
+carried s plan n = carryAll s (take n (stepsOf plan))
+
+-- ---- the answer: "Carrying out the first n steps checks the plan"
+
+-- Of a sound image: 7 for a "step count above the plan's whole steps", or what the checker answers. It is the whole plan that is checked, even for n = 0.
+unfoldable pub carryIn : List ℕ → Request → List ℕ → ℕ → Checked
+carryIn s r plan n = cond (ltb (wholeSteps plan) n) (Denied Range) (judged s r plan)
+
+-- of any image: "Every entry point first applies 1 to 6 to its image"
+abbrev pub carryAnswer : List ℕ → Request → List ℕ → ℕ → Checked
+carryAnswer s r plan n = ifSound (verdict s) Denied (carryIn s r plan n)
+
+-- "A refusal changes nothing lent": the image that an answer leaves
+abbrev pub leftBy : Checked → List ℕ → List ℕ → ℕ → List ℕ
+leftBy Accepted s plan n = carried s plan n
+leftBy (Denied x) s plan n = s
+
+-- the image afterwards
+abbrev pub carryImage : List ℕ → Request → List ℕ → ℕ → List ℕ
+carryImage s r plan n = leftBy (carryAnswer s r plan n) s plan n

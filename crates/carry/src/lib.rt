@@ -1,0 +1,134 @@
+// Carrying a plan out on the image.
+use checker::Checked;
+use checker::check::judge;
+use image::Verdict;
+use image::load::load;
+use layout::Refusal;
+use layout::Shape;
+use steps::Decoded;
+use steps::Request;
+use steps::STEP_BYTES;
+use steps::Step;
+use steps::Value;
+use steps::decode::decode_at;
+use steps::values::word_of;
+ghost use mathlib.Core.Path.{_≡_};
+ghost use mathlib.Core.Bool.{true};
+ghost use Prim.Native.Nat.{_+_, _*_, _≤_};
+ghost use lib.ListN.{length};
+ghost use Rattle.bitset.specs.Bits.{bitSet};
+ghost use Rattle.layout.specs.Shaped.{On};
+ghost use Rattle.layout.specs.Layout.{putWord};
+ghost use Rattle.image.specs.Free.{freeUnit, freeMap};
+ghost use Rattle.image.specs.Claims.{Tested};
+ghost use Rattle.steps.specs.Steps.{wordOf, wholeSteps};
+ghost use Rattle.checker.specs.Rules.{inRange, wholeInRange, rule1};
+ghost use Rattle.carry.specs.Carry.{carry as carryOne, carried, carryIn, leftBy, carryAnswer, carryImage};
+ghost use Rattle.carry.specs.Carrying.{carryDecoded};
+
+// Word `place` of the image is stored.
+fn store(image: &mut [u8], place: usize, value: Value)
+    requires { ⌜ 8 * place + 8 ≤ length (now image) ⌝ }
+    ensures { λ r. ⌜ now (image .exit) ≡ putWord (now (image .entry)) place (wordOf value) ⌝ }
+{
+    let word = word_of(value);
+    words::put_u64(image, 8 * place, word);
+}
+
+// One step is carried out: a MAP or LINK word is stored.
+fn carry_step(image: &mut [u8], g: Shape, step: Step)
+    requires { ⌜ On g (now image) ⌝ }
+    requires { ⌜ inRange g step ≡ true ⌝ }
+    ensures { λ r. ⌜ now (image .exit) ≡ carryOne (now (image .entry)) step ⌝ }
+{
+    match step {
+        Step::Data {
+            unit: _,
+            piece: _,
+            write: _,
+        } => {}
+        Step::Map { map, word, value } => {
+            let c = g.c as usize;
+            let p = g.p as usize;
+            store(image, c + map as usize * p + word as usize, value);
+        }
+        Step::Link { chunk, value } => store(image, chunk as usize, value),
+        Step::Fence => {}
+    }
+}
+
+// What the bytes of a step say is carried out.
+fn carry_decoded(image: &mut [u8], g: Shape, d: Decoded)
+    requires { ⌜ On g (now image) ⌝ }
+    requires { ⌜ wholeInRange g d ≡ true ⌝ }
+    ensures { λ r. ⌜ now (image .exit) ≡ carryDecoded (now (image .entry)) d ⌝ }
+{
+    match d {
+        Decoded::Whole(step) => carry_step(image, g, step),
+        Decoded::Malformed => {}
+    }
+}
+
+// The first `n` steps of a plan that keeps rule 1 are carried out.
+fn carry_steps(image: &mut [u8], g: Shape, plan: &[u8], n: usize)
+    requires { ⌜ On g (now image) ⌝ }
+    requires { ⌜ (rule1 g (now plan) ≡ true) × (n ≤ wholeSteps (now plan)) ⌝ }
+    ensures { λ r. ⌜ now (image .exit) ≡ carried (now (image .entry)) (now (plan .entry)) n ⌝ }
+{
+    let mut i: usize = 0;
+    while i < n {
+        let d = decode_at(plan, i);
+        carry_decoded(image, g, d);
+        i += 1;
+    }
+}
+
+// The answer for a sound image, of which the shape and the free sets are known.
+fn carry_in(
+    image: &mut [u8],
+    g: Shape,
+    units: [u64; 72],
+    maps: [u64; 5],
+    request: Request,
+    plan: &[u8],
+    n: u64,
+) -> Checked
+    requires { ⌜ On g (now image) ⌝ }
+    requires { ⌜ Tested (now image) ⌝ }
+    requires { ⌜ (units ≡ bitSet (freeUnit (now image)) 72) × (maps ≡ bitSet (freeMap (now image)) 5) ⌝ }
+    ensures { λ r. ⌜ r ≡ carryIn (now (image .entry)) request (now (plan .entry)) n ⌝ }
+    ensures { λ r. ⌜
+        now (image .exit) ≡ leftBy (carryIn (now (image .entry)) request (now (plan .entry)) n) (now (image .entry)) (now (plan .entry)) n
+        ⌝ }
+{
+    let count = (plan.len() / STEP_BYTES) as u64;
+    if count < n {
+        return Checked::Refused(Refusal::Range);
+    }
+    let answer = judge(image, g, units, maps, request, plan);
+    match answer {
+        Checked::Accepted => {
+            carry_steps(image, g, plan, n as usize);
+            Checked::Accepted
+        }
+        Checked::Refused(x) => Checked::Refused(x),
+    }
+}
+
+// Checks a plan and carries its first `n` steps out on the image: refusals 1 to 8 and 11.
+pub fn carry(image: &mut [u8], request: Request, plan: &[u8], n: u64) -> Checked
+    ensures { λ r. ⌜ r ≡ carryAnswer (now (image .entry)) request (now (plan .entry)) n ⌝ }
+    ensures { λ r. ⌜ now (image .exit) ≡ carryImage (now (image .entry)) request (now (plan .entry)) n ⌝ }
+{
+    let l = load(image);
+    let v = l.verdict;
+    match v {
+        Verdict::Refused(x) => Checked::Refused(x),
+        Verdict::Passed => {
+            let g = l.shape;
+            let units = l.units;
+            let maps = l.maps;
+            carry_in(image, g, units, maps, request, plan, n)
+        }
+    }
+}
