@@ -1,0 +1,196 @@
+-- One event: what the invariant of demand 3 is, that the event keeps it, and that every chunk then holds what the ledger's entry for the event says.
+use Prim.Native.Nat.{ℕ, _≤_, _<_}
+use mathlib.Core.Path.{_≡_, refl, sym, ap, _∙_, subst}
+use mathlib.Core.Logic.{_⊎_, inl, inr, _≢_}
+use mathlib.Core.Bool.{Bool, true, false, cond}
+use mathlib.Core.List.{List}
+use native.Mathlib.Omega.{arith}
+use lib.ListN.{length, drop}
+use borrow.Author.Tests.{ltb-true}
+use Rattle.layout.specs.declared.Shape.{Shape}
+use Rattle.layout.specs.Layout.{shapeOf, trailerStart, trailerOf}
+use Rattle.search.proofs.Bools.{contradict, either, cond-true, cond-false}
+use Rattle.image.specs.Soundness.{Sound}
+use Rattle.image.proofs.Order.{Orderly, orderly, orderly-tested}
+use Rattle.image.proofs.Wording.{sound-shape, sound-tested, trailed-sound}
+use Rattle.steps.specs.declared.Step.{Step}
+use Rattle.steps.specs.declared.Decoded.the-variants.{Whole}
+use Rattle.steps.specs.Steps.{decodeAt, stepsOf, wholeSteps, chunkOf}
+use Rattle.steps.specs.Encodable.{Each}
+use Rattle.checker.specs.declared.Checked.{Checked}
+use Rattle.checker.specs.declared.Checked.the-variants.{Accepted, Refused}
+use Rattle.checker.specs.Rules.{rule1, checked}
+use Rattle.checker.proofs.Accepting.{Passed, accepted-of}
+use Rattle.checker.proofs.Places.{at-below, step-there}
+use Rattle.checker.proofs.Wording.{rule1-told}
+use Rattle.carry.specs.Carry.{carryAnswer}
+use Rattle.carry.proofs.AnswerLaws.{answer-accepted}
+use Rattle.durable.specs.Events.{Volume, Event, Outcome, refused, finished, cut, accepted, tried, lands, complete, settle, linkLands, after, holds, outcome, entry, entered}
+use Rattle.checker.proofs.StepLaws.{InRange, each-in-range}
+use Rattle.durable.proofs.Settle.{settle-trailer}
+use Rattle.durable.proofs.Requests.{Settled, settled-any}
+
+-- ---- the invariant
+
+-- a sound image of shape g: in order chunk by chunk, and with the trailer's bytes
+pub record Intact (g : Shape) (s : List ℕ) : Type 0 where
+  pub order : Orderly g s
+  pub trailer : drop (trailerStart g) s ≡ trailerOf g
+
+pub sound-intact : (g : Shape) (s : List ℕ) → Sound g s → Intact g s
+sound-intact g s z = record {
+  order = subst (λ (h : Shape). Orderly h s) (sound-shape g s z) (orderly (sound-tested g s z));
+  trailer = z .trailer;
+}
+
+pub intact-sound : (g : Shape) (s : List ℕ) → Intact g s → Sound g s
+intact-sound g s d =
+    let e = d .order .on .shape in
+    subst (λ (h : Shape). Sound h s) e
+    (trailed-sound s (orderly-tested (d .order)) (subst (λ (h : Shape). drop (trailerStart h) s ≡ trailerOf h) (sym e) (d .trailer)))
+
+-- ---- an accepted plan
+
+pub is-accepted : (a : Checked) → accepted a ≡ true → a ≡ Accepted
+is-accepted Accepted h = refl
+is-accepted (Refused x) h = contradict h refl
+
+-- a plan that keeps rule 1 has all its whole steps
+all-steps : (g : Shape) (plan : List ℕ) → rule1 g plan ≡ true → (i : ℕ) → i < wholeSteps plan → i < length (stepsOf plan)
+all-steps g plan h i b =
+    let w : (j : ℕ) → j < wholeSteps plan → (x : Step) × (decodeAt plan j ≡ Whole x) = λ j l. let s = rule1-told g plan h .steps j l in (s .0, s .1) in
+    let f = w i b in
+    at-below (stepsOf plan) i (f .0) (step-there plan w i (f .0) b (f .1))
+
+-- ---- what an outcome says
+
+pub cut-tried : (b : Bool) → cut b ≢ refused
+cut-tried b h = let q : _≡_ {A = ℕ} 0 1 = cc in omega arith
+
+pub finished-tried : finished ≢ refused
+finished-tried h = let q : _≡_ {A = ℕ} 0 1 = cc in omega arith
+
+cut-open : (b : Bool) → cut b ≢ finished
+cut-open b h = let q : _≡_ {A = ℕ} 0 1 = cc in omega arith
+
+of-tried : (t c b : Bool) → cond t (cond c finished (cut b)) refused ≢ refused → t ≡ true
+of-tried true c b n = refl
+of-tried false c b n = absurd (n refl)
+
+of-refused : (t c b : Bool) → cond t (cond c finished (cut b)) refused ≡ refused → t ≡ false
+of-refused true true b h = absurd (finished-tried h)
+of-refused true false b h = absurd (cut-tried b h)
+of-refused false c b h = refl
+
+of-finished : (c b : Bool) → cond c finished (cut b) ≡ finished → c ≡ true
+of-finished true b h = refl
+of-finished false b h = absurd (cut-open b h)
+
+module _ {A : Type 0} (v : Volume A) (e : Event A) where
+  pub after-tried : tried (v .image) e ≡ true → after v e ≡ settle e 0 (stepsOf (e .plan)) v
+  unfolding after
+  after-tried h = cond-true (tried (v .image) e) (settle e 0 (stepsOf (e .plan)) v) v h
+
+  pub after-refused : tried (v .image) e ≡ false → after v e ≡ v
+  unfolding after
+  after-refused h = cond-false (tried (v .image) e) (settle e 0 (stepsOf (e .plan)) v) v h
+
+  -- the outcome of an event that is tried
+  abbrev pub ended : Outcome
+  ended = cond (complete e) finished (cut (linkLands e 0 (stepsOf (e .plan))))
+
+  pub outcome-tried : tried (v .image) e ≡ true → outcome (v .image) e ≡ ended
+  unfolding outcome
+  outcome-tried h = cond-true (tried (v .image) e) ended refused h
+
+  outcome-refused : tried (v .image) e ≡ false → outcome (v .image) e ≡ refused
+  unfolding outcome
+  outcome-refused h = cond-false (tried (v .image) e) ended refused h
+
+  pub was-tried : (o : Outcome) → outcome (v .image) e ≡ o → o ≢ refused → tried (v .image) e ≡ true
+  unfolding outcome
+  was-tried o h n = of-tried (tried (v .image) e) (complete e) (linkLands e 0 (stepsOf (e .plan))) (λ q. n (sym h ∙ q))
+
+  pub was-refused : outcome (v .image) e ≡ refused → tried (v .image) e ≡ false
+  unfolding outcome
+  was-refused h = of-refused (tried (v .image) e) (complete e) (linkLands e 0 (stepsOf (e .plan))) h
+
+-- ---- one event
+
+module _ {A : Type 0} (g : Shape) (v : Volume A) (e : Event A) (d : Intact g (v .image)) where
+  abbrev s : List ℕ
+  s = v .image
+
+  abbrev xs : List Step
+  xs = stepsOf (e .plan)
+
+  abbrev t : Volume A
+  t = settle e 0 xs v
+
+  here : Orderly (shapeOf s) s
+  here = subst (λ (h : Shape). Orderly h s) (sym (d .order .on .shape)) (d .order)
+
+  -- ---- a plan that is tried
+
+  module _ (h : tried s e ≡ true) where
+    accepts : (checked s (e .request) (e .plan) ≡ Accepted) × (e .count ≤ wholeSteps (e .plan))
+    unfolding tried
+    accepts = answer-accepted s (e .request) (e .plan) (e .count) (is-accepted (carryAnswer s (e .request) (e .plan) (e .count)) h)
+
+    plan : Passed s (e .request) (e .plan)
+    plan = accepted-of s (e .request) (e .plan) (accepts .0)
+
+    pub chunk-in : chunkOf (e .request) < g .c
+    chunk-in = subst (λ (k : Shape). chunkOf (e .request) < k .c) (d .order .on .shape) (ltb-true (chunkOf (e .request)) (shapeOf s .c) (plan .chunk))
+
+    settled : Settled v e here (e .request)
+    settled = settled-any v e here (e .request) plan
+
+    tried-intact : Intact g (t .image)
+    tried-intact = record {
+      order = subst (λ (k : Shape). Orderly k (t .image)) (d .order .on .shape) (settled .orderly);
+      trailer =
+          settle-trailer e g 0 xs v (d .order .on)
+          (subst (λ (k : Shape). Each (InRange k) xs) (d .order .on .shape) (each-in-range (shapeOf s) (e .plan) (plan .rules .one)))
+          ∙ d .trailer;
+    }
+
+    -- "finished, and all have landed"
+    pub landed-whole : outcome s e ≡ finished → (i : ℕ) → i < e .count → lands e i ≡ true
+    landed-whole f i b =
+        let c : complete e ≡ true = of-finished (complete e) (linkLands e 0 xs) (sym (outcome-tried v e h) ∙ f) in
+        settled .whole c i (all-steps (shapeOf s) (e .plan) (plan .rules .one) i (omega (arith, accepts .1)))
+
+    tried-holds : (i : ℕ) → i < g .c → holds t i ≡ entered (holds v) (entry e (ended v e)) i
+    tried-holds i b = go (either (complete e)) (either (linkLands e 0 xs))
+      where
+        k : i < shapeOf s .c
+        k = subst (λ (q : Shape). i < q .c) (sym (d .order .on .shape)) b
+
+        by : {o : Outcome} → ended v e ≡ o → entered (holds v) (entry e o) i ≡ entered (holds v) (entry e (ended v e)) i
+        by q = ap (λ (o : Outcome). entered (holds v) (entry e o) i) (sym q)
+
+        go : (complete e ≡ true) ⊎ (complete e ≡ false) → (linkLands e 0 xs ≡ true) ⊎ (linkLands e 0 xs ≡ false)
+            → holds t i ≡ entered (holds v) (entry e (ended v e)) i
+        go (inl q) l = settled .new (inr q) i k ∙ by (cond-true (complete e) finished (cut (linkLands e 0 xs)) q)
+        go (inr q) (inl l) = settled .new (inl l) i k ∙ by (cond-false (complete e) finished (cut (linkLands e 0 xs)) q ∙ ap cut l)
+        go (inr q) (inr l) = settled .old l q i k ∙ by (cond-false (complete e) finished (cut (linkLands e 0 xs)) q ∙ ap cut l)
+
+  -- ---- any plan
+
+  pub event-intact : Intact g (after v e .image)
+  event-intact = go (either (tried s e))
+    where
+      go : (tried s e ≡ true) ⊎ (tried s e ≡ false) → Intact g (after v e .image)
+      go (inl h) = subst (λ (w : Volume A). Intact g (w .image)) (sym (after-tried v e h)) (tried-intact h)
+      go (inr h) = subst (λ (w : Volume A). Intact g (w .image)) (sym (after-refused v e h)) d
+
+  pub event-holds : (i : ℕ) → i < g .c → holds (after v e) i ≡ entered (holds v) (entry e (outcome (v .image) e)) i
+  event-holds i b = go (either (tried s e))
+    where
+      by : {o : Outcome} → outcome s e ≡ o → entered (holds v) (entry e o) i ≡ entered (holds v) (entry e (outcome s e)) i
+      by q = ap (λ (o : Outcome). entered (holds v) (entry e o) i) (sym q)
+
+      go : (tried s e ≡ true) ⊎ (tried s e ≡ false) → holds (after v e) i ≡ entered (holds v) (entry e (outcome s e)) i
+      go (inl h) = ap (λ (w : Volume A). holds w i) (after-tried v e h) ∙ tried-holds h i b ∙ by (outcome-tried v e h)
+      go (inr h) = ap (λ (w : Volume A). holds w i) (after-refused v e h) ∙ by (outcome-refused v e h)

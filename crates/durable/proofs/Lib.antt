@@ -1,0 +1,12 @@
+pub mod Settle
+pub mod Linking
+pub mod Fences
+pub mod Careful
+pub mod Written
+pub mod Core
+pub mod Jobs
+pub mod Requests
+pub mod Effect
+pub mod Carrying
+pub mod History
+pub mod Theorems

@@ -1,0 +1,153 @@
+-- What the steps of an accepted write or discard leave: an orderly image, and the old pieces or the new ones.
+use Prim.Native.Nat.{ℕ, _<_, _≤_}
+use native.Mathlib.Omega.{arith}
+use mathlib.Core.Path.{_≡_, refl, sym, ap, _∙_, subst}
+use mathlib.Core.Logic.{_⊎_, inl, inr}
+use mathlib.Core.Bool.{true, false, cond}
+use mathlib.Core.List.{List, [], map}
+use lib.ListN.{length}
+use lib.Dec.{eqb}
+use borrow.Author.Tests.{eqb-true, eqb-false, ltb-true}
+use Rattle.layout.specs.declared.Shape.{Shape}
+use Rattle.search.specs.Search.{from}
+use Rattle.layout.specs.Layout.{X, mapWords, shapeOf}
+use Rattle.image.specs.Soundness.{mapped}
+use Rattle.search.proofs.Bools.{contradict, either, cond-true, cond-false}
+use Rattle.image.proofs.Chunks.{units-unmapped}
+use Rattle.image.proofs.Order.{Orderly}
+use Rattle.steps.specs.declared.Step.{Step}
+use Rattle.steps.specs.declared.Request.{Request}
+use Rattle.steps.specs.declared.Request.the-variants.{Write, Discard}
+use Rattle.steps.specs.Steps.{unitsFor, stepsOf, chunkOf}
+use Rattle.checker.specs.Rules.{links, isNone, endsIn, planMap, unitOf}
+use Rattle.checker.proofs.Accepting.{Passed}
+use Rattle.steps.specs.Encodable.{Each}
+use Rattle.steps.proofs.Codec.{each-map}
+use Rattle.checker.proofs.StepLaws.{InRange, Links, OnLink, on-links, each-in-range}
+use Rattle.checker.proofs.Facts.{Writes, writes, Discards, discards, discards-nothing}
+use Rattle.durable.specs.Events.{Volume, Event, lands, complete, settle, linkLands, holds, newPieces}
+use Rattle.durable.proofs.Settle.{Solid, settle-nil, set-content}
+use Rattle.durable.proofs.Linking.{linkLandsOn, lands-own, lands-other}
+use Rattle.durable.proofs.Fences.{solid, complete-link, all-landed}
+use Rattle.durable.proofs.Careful.{Careful, careful-write, careful-discard, holds-is}
+use Rattle.durable.proofs.Core.{still-holds}
+use Rattle.durable.proofs.Jobs.{Job, puts, clears, given, job-holds, jobs-orderly}
+use Rattle.layout.proofs.Limits.{fitting-limits}
+
+module _ {A : Type 0} (v : Volume A) (e : Event A) (d : Orderly (shapeOf (v .image)) (v .image)) where
+  abbrev s : List ℕ
+  s = v .image
+
+  abbrev g : Shape
+  g = shapeOf s
+
+  abbrev xs : List Step
+  xs = stepsOf (e .plan)
+
+  abbrev t : Volume A
+  t = settle e 0 xs v
+
+  -- what the steps of an accepted request leave
+  pub record Settled (r : Request) : Type 0 where
+    pub orderly : Orderly (shapeOf (v .image)) (settle e 0 (stepsOf (e .plan)) v .image)
+    pub old : linkLands e 0 (stepsOf (e .plan)) ≡ false → complete e ≡ false → (i : ℕ) → i < shapeOf (v .image) .c → holds (settle e 0 (stepsOf (e .plan)) v) i ≡ holds v i
+    pub new : (linkLands e 0 (stepsOf (e .plan)) ≡ true) ⊎ (complete e ≡ true) → (i : ℕ) → i < shapeOf (v .image) .c
+        → holds (settle e 0 (stepsOf (e .plan)) v) i ≡ cond (eqb i (chunkOf r)) (newPieces r (e .payload)) (holds v i)
+    pub whole : complete e ≡ true → (i : ℕ) → i < length (stepsOf (e .plan)) → lands e i ≡ true
+
+  -- ---- a careful plan with LINKs, all of chunk c
+
+  module _ (r : Request) (w : ℕ) (b : chunkOf r < g .c) (k : Careful g s xs) (l : Each (OnLink (chunkOf r) w) xs) (a : isNone (links xs) ≡ false)
+      (ends : endsIn false xs ≡ true) (job : linkLands e 0 xs ≡ true → Job v e xs (chunkOf r)) (right : (p : linkLands e 0 xs ≡ true) → given (job p) ≡ newPieces r (e .payload)) where
+    abbrev c : ℕ
+    c = chunkOf r
+
+    only : (i : ℕ) → linkLandsOn e i 0 xs ≡ true → i ≡ c
+    only i h = go (either (eqb i c))
+      where
+        go : (eqb i c ≡ true) ⊎ (eqb i c ≡ false) → i ≡ c
+        go (inl q) = eqb-true i c q
+        go (inr q) = contradict h (lands-other e c w i 0 xs l (eqb-false i c q))
+
+    own : linkLandsOn e c 0 xs ≡ linkLands e 0 xs
+    own = lands-own e c w 0 xs l
+
+    jobs : (i : ℕ) → linkLandsOn e i 0 xs ≡ true → Job v e xs i
+    jobs i p = subst (Job v e xs) (sym (only i p)) (job (sym own ∙ ap (λ (j : ℕ). linkLandsOn e j 0 xs) (sym (only i p)) ∙ p))
+
+    still-quiet : (i : ℕ) → linkLands e 0 xs ≡ false → (eqb i c ≡ true) ⊎ (eqb i c ≡ false) → linkLandsOn e i 0 xs ≡ false
+    still-quiet i p (inl z) = ap (λ (j : ℕ). linkLandsOn e j 0 xs) (eqb-true i c z) ∙ own ∙ p
+    still-quiet i p (inr z) = lands-other e c w i 0 xs l (eqb-false i c z)
+
+    moved : linkLands e 0 xs ≡ true → (i : ℕ) → i < g .c → (eqb i c ≡ true) ⊎ (eqb i c ≡ false)
+        → holds t i ≡ cond (eqb i c) (newPieces r (e .payload)) (holds v i)
+    moved p i q (inl z) =
+        ap (holds t) (eqb-true i c z) ∙ job-holds v e d k c b (own ∙ p) (job p) ∙ right p
+        ∙ sym (cond-true (eqb i c) (newPieces r (e .payload)) (holds v i) z)
+    moved p i q (inr z) =
+        still-holds v e d k i q (lands-other e c w i 0 xs l (eqb-false i c z)) ∙ sym (cond-false (eqb i c) (newPieces r (e .payload)) (holds v i) z)
+
+    -- "finished, and all have landed": by the last FENCE
+    all : complete e ≡ true → (i : ℕ) → i < length xs → lands e i ≡ true
+    all = all-landed e xs refl ends
+
+    some : (linkLands e 0 xs ≡ true) ⊎ (complete e ≡ true) → linkLands e 0 xs ≡ true
+    some (inl p) = p
+    some (inr p) = complete-link e 0 xs (λ i low high. all p i (omega arith)) a
+
+    settled : Settled r
+    settled = record {
+      orderly = jobs-orderly v e d k jobs (λ i j z p q. absurd (z (only i p ∙ sym (only j q))));
+      old = λ p z i q. still-holds v e d k i q (still-quiet i p (either (eqb i c)));
+      new = λ p i q. moved (some p) i q (either (eqb i c));
+      whole = all;
+    }
+
+  -- ---- the three requests
+
+  settled-write : (c size : ℕ) → Each (InRange g) xs → c < g .c → Writes s c size xs → Settled (Write c size)
+  settled-write c size r b h =
+      settled (Write c size) (planMap xs) b (careful-write s c size xs r h) (h .on-link)
+      (h .guarded .a-link) (h .guarded .last)
+      (λ p. let z : Solid e 0 xs = solid e xs refl (h .guarded) p in
+      puts (unitsFor size) (planMap xs) (λ j. unitOf j xs) (e .payload) (h .deal) z (λ j q. set-content e j 0 xs v (h .units-differ) (h .has-piece j q) z))
+      (λ p. refl)
+
+  settled-discard : (c : ℕ) → Each (InRange g) xs → c < g .c → Discards c xs → Settled (Discard c)
+  unfolding from
+  settled-discard c r b h =
+      settled (Discard c) X b (careful-discard s c xs r h) (h .on-link)
+      (h .a-link) (h .last) (λ p. clears (each-map (OnLink c X) (Links c X) xs (on-links c X) (h .on-link))) (λ p. refl)
+
+  settled-nothing : (c : ℕ) → mapped s c ≡ false → xs ≡ [] → Settled (Discard c)
+  unfolding from
+  settled-nothing c m n = record {
+    orderly = subst (λ (w : Volume A). Orderly g (w .image)) (sym same) d;
+    old = λ p q i b. ap (λ (w : Volume A). holds w i) same;
+    new = λ p i b. ap (λ (w : Volume A). holds w i) same ∙ go i (either (eqb i c));
+    whole = λ q i b. absurd (let z = ap length n in omega arith);
+  }
+    where
+      same : t ≡ v
+      same = ap (λ (ys : List Step). settle e 0 ys v) n ∙ settle-nil e 0 v
+
+      go : (i : ℕ) → (eqb i c ≡ true) ⊎ (eqb i c ≡ false) → holds v i ≡ cond (eqb i c) [] (holds v i)
+      go i (inl q) =
+          ap (holds v) (eqb-true i c q) ∙ holds-is v c ∙ ap (map (v .content)) (units-unmapped s c m)
+          ∙ sym (cond-true (eqb i c) [] (holds v i) q)
+      go i (inr q) = sym (cond-false (eqb i c) [] (holds v i) q)
+
+  words-some : {r : Request} → Passed (v .image) r (e .plan) → 1 ≤ mapWords (shapeOf (v .image))
+  words-some p = let l = fitting-limits s (p .sound .fitting) in omega (arith, l .p-low)
+
+  pub settled-any : (r : Request) → Passed (v .image) r (e .plan) → Settled r
+  settled-any (Write c size) p =
+      settled-write c size (each-in-range g (e .plan) (p .rules .one)) (ltb-true c (g .c) (p .chunk))
+      (writes s c xs size (each-in-range g (e .plan) (p .rules .one)) (p .size) (words-some p) (p .rules .two) (p .rules .three) (p .rules .four) (p .rules .five))
+  settled-any (Discard c) p = go (either (mapped s c))
+    where
+      go : (mapped s c ≡ true) ⊎ (mapped s c ≡ false) → Settled (Discard c)
+      go (inl m) =
+          settled-discard c (each-in-range g (e .plan) (p .rules .one)) (ltb-true c (g .c) (p .chunk))
+          (discards s c xs m (p .rules .two) (p .rules .three) (p .rules .four) (p .rules .five))
+      go (inr m) = settled-nothing c m (discards-nothing s c xs m (p .rules .five))
