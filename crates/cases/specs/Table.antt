@@ -1,0 +1,175 @@
+-- Document 01's worked cases of the 224-byte volume, 'The 64 KB volume worked through', and its 'How a map comes to lie', as one table. Each row asks the
+-- definitions that the promises cite.
+use Prim.Native.Nat.{ℕ, _+_, _*_}
+use mathlib.Core.Path.{_≡_}
+use mathlib.Core.Bool.{Bool}
+use mathlib.Core.List.{List, [], _∷_, _++_}
+use lib.ListN.{length, replicate}
+use Rattle.search.specs.Search.{below, from}
+use Rattle.bitset.specs.Bits.{members}
+use Rattle.layout.specs.declared.Shape.{Shape}
+use Rattle.layout.specs.declared.Refusal.{Refusal}
+use Rattle.layout.specs.declared.Refusal.the-variants.{Shared, Size, BadPlan}
+use Rattle.layout.specs.Layout.{putWord, shapeOf}
+use Rattle.layout.specs.Format.{formatImage}
+use Rattle.layout.specs.Refusals.{refusalNumber, refusalPlace, refusalSecond}
+use Rattle.image.specs.declared.Verdict.the-variants.{Refused as Unsound}
+use Rattle.image.specs.Soundness.{unitsOf}
+use Rattle.image.specs.Loading.{loaded}
+use Rattle.access.specs.declared.Piece.{Piece}
+use Rattle.access.specs.declared.Split.the-variants.{Pieces}
+use Rattle.access.specs.Ranges.{piecesOf, splitAnswer}
+use Rattle.steps.specs.declared.Value.the-variants.{Number, Absent}
+use Rattle.steps.specs.declared.Step.{Step}
+use Rattle.steps.specs.declared.Step.the-variants.{Data, Map, Link, Fence}
+use Rattle.steps.specs.declared.Request.{Request}
+use Rattle.steps.specs.declared.Request.the-variants.{Write, Discard}
+use Rattle.steps.specs.Steps.{encodeAll}
+use Rattle.checker.specs.declared.Checked.{Checked}
+use Rattle.checker.specs.declared.Checked.the-variants.{Accepted, Refused as Denied}
+use Rattle.checker.specs.Rules.{checked}
+use Rattle.planner.specs.declared.Planned.the-variants.{Steps, Refused as Unplanned}
+use Rattle.planner.specs.Planner.{planOf, planAnswer}
+use Rattle.carry.specs.Carry.{carryImage}
+use Rattle.durable.specs.Events.{Event, holds, after}
+
+-- ---- the volume and what is done on it
+
+-- "C=4, P=4, M=5, N=20", formatted in a buffer of 224 bytes
+abbrev pub volume : List ℕ
+volume = formatImage (record { p = 4; c = 4; m = 5; n = 20 }) (replicate 224 0)
+
+-- the planner's plan for a request
+abbrev pub planFor : List ℕ → Request → List ℕ
+planFor s r = encodeAll (planOf s r)
+
+-- the image after the first n steps of it are carried out
+abbrev pub partly : List ℕ → Request → ℕ → List ℕ
+partly s r n = carryImage s r (planFor s r) n
+
+-- the image after some requests, the planner's plan for each carried out whole
+unfoldable pub done : List ℕ → List Request → List ℕ
+done s [] = s
+done s (r ∷ rs) = done (partly s r (length (planOf s r))) rs
+
+abbrev pub left : List Request → List ℕ
+left rs = done volume rs
+
+-- the planner's plan for a request cut at point n; `landed` says which steps since the last FENCE passed landed
+abbrev pub cutAt : List ℕ → Request → ℕ → (ℕ → Bool) → Event ℕ
+cutAt s r n landed = record { request = r; payload = λ j. 100 + j; plan = planFor s r; count = n; landed = landed; left = λ i. 200 + i }
+
+-- ---- the questions
+
+pub data Case : Type 0 where
+  -- after these requests load gives these units and maps as free
+  free : List Request → List ℕ → List ℕ → Case
+  -- after these requests the planner answers a further one with these steps
+  plans : List Request → Request → List Step → Case
+  -- on the fresh volume the planner and the checker refuse the request, with this number
+  refuses : Request → Refusal → ℕ → Case
+  -- a write of this size takes so many units
+  takes : ℕ → ℕ → Case
+  -- after these requests a chunk shows these units
+  shows : List Request → ℕ → List ℕ → Case
+  -- after these requests and the planner's plan for a further one, cut at a point, a chunk shows these units and holds their contents, whichever steps landed
+  cuts : List Request → Request → ℕ → ℕ → List ℕ → Case
+  -- after these requests a byte range splits into these pieces
+  splits : List Request → ℕ → ℕ → List Piece → Case
+  -- after these requests the image with some words stored is refused, with this number and these two places
+  unsound : List Request → List (ℕ × ℕ) → Refusal → ℕ → ℕ → ℕ → Case
+  -- after these requests the checker's answer to these steps for a further one
+  checks : List Request → Request → List Step → Checked → Case
+
+-- the image with words stored
+abbrev pub putWords : List ℕ → List (ℕ × ℕ) → List ℕ
+putWords s [] = s
+putWords s (w ∷ ws) = putWords (putWord s (w .0) (w .1)) ws
+
+abbrev pub Right : Case → Type 0
+Right (free rs us ks) = (members (loaded (left rs) .units) ≡ us) × (members (loaded (left rs) .maps) ≡ ks)
+Right (plans rs r xs) = (planAnswer (left rs) r (16 * length xs) ≡ Steps (length xs)) × (planOf (left rs) r ≡ xs)
+Right (refuses r x k) = (planAnswer volume r 560 ≡ Unplanned x) × (checked volume r [] ≡ Denied x) × (refusalNumber x ≡ k)
+Right (takes size k) = planAnswer volume (Write 0 size) 560 ≡ Steps (k + 4 + 3)
+Right (shows rs i us) = unitsOf (left rs) i ≡ us
+Right (cuts rs r n i us) =
+    (landed : ℕ → Bool)
+    → (unitsOf (after (record { image = left rs; content = λ u. u }) (cutAt (left rs) r n landed) .image) i ≡ us)
+    × (holds (after (record { image = left rs; content = λ u. u }) (cutAt (left rs) r n landed)) i ≡ us)
+Right (splits rs offset span xs) =
+    (splitAnswer (left rs) offset span (12 * length xs) ≡ Pieces (length xs)) × (piecesOf (shapeOf (left rs)) offset span ≡ xs)
+Right (unsound rs ws x k i j) =
+    (loaded (putWords (left rs) ws) .verdict ≡ Unsound x) × (refusalNumber x ≡ k) × (refusalPlace x ≡ i) × (refusalSecond x ≡ j)
+Right (checks rs r xs a) = checked (left rs) r (encodeAll xs) ≡ a
+
+abbrev pub AllRight : List Case → Type 0
+AllRight [] = Unit {0}
+AllRight (x ∷ xs) = Right x × AllRight xs
+
+-- ---- the table
+
+-- document 01's three writes
+abbrev pub write1 : Request
+write1 = Write 2 6144
+
+abbrev pub write2 : Request
+write2 = Write 0 3072
+
+abbrev pub write3 : Request
+write3 = Write 0 5120
+
+-- their plans
+abbrev pub plan1 : List Step
+plan1 = Data 0 0 0 ∷ Data 1 1 0 ∷ Map 0 0 (Number 0) ∷ Map 0 1 (Number 1) ∷ Map 0 2 Absent ∷ Map 0 3 Absent ∷ Fence ∷ Link 2 (Number 0) ∷ Fence ∷ []
+
+abbrev pub plan2 : List Step
+plan2 = Data 2 0 0 ∷ Map 1 0 (Number 2) ∷ Map 1 1 Absent ∷ Map 1 2 Absent ∷ Map 1 3 Absent ∷ Fence ∷ Link 0 (Number 1) ∷ Fence ∷ []
+
+-- the DATA and MAP steps of a plan for the third, on these units
+abbrev pub steps3 : ℕ → ℕ → List Step
+steps3 u w = Data u 0 0 ∷ Data w 1 0 ∷ Map 2 0 (Number u) ∷ Map 2 1 (Number w) ∷ Map 2 2 Absent ∷ Map 2 3 Absent ∷ []
+
+abbrev pub plan3 : List Step
+plan3 = steps3 3 4 ++ (Fence ∷ Link 0 (Number 2) ∷ Fence ∷ [])
+
+abbrev pub table : List Case
+table =
+    -- "fresh: free units 0 to 19, maps 0 to 4"
+    free [] (below 20) (below 5)
+    -- "s 6,144 on chunk 2: units 0, 1, map 0, nine steps"
+    ∷ plans [] write1 plan1
+    -- "then s 3,072 on chunk 0: unit 2, map 1"
+    ∷ plans (write1 ∷ []) write2 plan2
+    -- "then s 5,120 on chunk 0: units 3, 4, map 2; after it unit 2 and map 1 are free"
+    ∷ plans (write1 ∷ write2 ∷ []) write3 plan3
+    ∷ shows (write1 ∷ write2 ∷ write3 ∷ []) 0 (3 ∷ 4 ∷ [])
+    ∷ free (write1 ∷ write2 ∷ write3 ∷ []) (2 ∷ from 5 15) (1 ∷ 3 ∷ 4 ∷ [])
+    -- "the same plan cut before LINK: chunk 0 still shows unit 2"
+    ∷ cuts (write1 ∷ write2 ∷ []) write3 7 0 (2 ∷ [])
+    -- "s 1, 4,096, 4,097, 16,384 take 1, 1, 2, 4 units; 0 and 16,385 give 8"
+    ∷ takes 1 1
+    ∷ takes 4096 1
+    ∷ takes 4097 2
+    ∷ takes 16384 4
+    ∷ refuses (Write 0 0) Size 8
+    ∷ refuses (Write 0 16385) Size 8
+    -- "20,480 bytes at 4,096: (0, 4096, 12288), (1, 0, 8192)"
+    ∷ splits [] 4096 20480 (record { chunk = 0; offset = 4096; len = 12288 } ∷ record { chunk = 1; offset = 0; len = 8192 } ∷ [])
+    -- "chunks 0 and 3 both naming map 0 (a sound map): 6 with 0 and 3"
+    ∷ unsound (Write 0 6144 ∷ []) ((3, 0) ∷ []) (Shared 0 3) 6 0 3
+    -- "discard of unmapped chunk 1: no steps; a lone FENCE gives 11, rule 5"
+    ∷ plans [] (Discard 1) []
+    ∷ checks [] (Discard 1) [] Accepted
+    ∷ checks [] (Discard 1) (Fence ∷ []) (Denied (BadPlan 5))
+    -- "LINK before the fence", "No last FENCE": 11, rule 5
+    ∷ checks (write1 ∷ write2 ∷ []) write3 (steps3 3 4 ++ (Link 0 (Number 2) ∷ Fence ∷ [])) (Denied (BadPlan 5))
+    ∷ checks (write1 ∷ write2 ∷ []) write3 (steps3 3 4 ++ (Fence ∷ Link 0 (Number 2) ∷ [])) (Denied (BadPlan 5))
+    -- "Old units counted free for the write that replaces them": 11, rule 2, where the new plan is on unit 2. Else the plan is good.
+    ∷ checks (write1 ∷ write2 ∷ []) write3 (steps3 2 3 ++ (Fence ∷ Link 0 (Number 2) ∷ Fence ∷ [])) (Denied (BadPlan 2))
+    ∷ checks (write1 ∷ write2 ∷ []) write3 (steps3 5 4 ++ (Fence ∷ Link 0 (Number 2) ∷ Fence ∷ [])) Accepted
+    -- "dead maps leak units": map 1, which no chunk names any more, still says unit 2. That unit is free above, and the next write takes it.
+    ∷ plans (write1 ∷ write2 ∷ write3 ∷ []) (Write 3 1)
+    (Data 2 0 0 ∷ Map 1 0 (Number 2) ∷ Map 1 1 Absent ∷ Map 1 2 Absent ∷ Map 1 3 Absent ∷ Fence ∷ Link 3 (Number 1) ∷ Fence ∷ [])
+    -- "On a double claim, letting the later chunk win": unit 1 in the maps of chunks 2 and 0
+    ∷ unsound (write1 ∷ write2 ∷ []) ((8, 1) ∷ []) (Shared 0 2) 6 0 2
+    ∷ []
