@@ -23,7 +23,7 @@ use Rattle.image.proofs.MapWords.{in-maps, length-mapOf}
 use Rattle.image.proofs.Loads.{Known}
 use Rattle.access.specs.declared.Extent.{Extent}
 use Rattle.access.specs.declared.Status.the-variants.{Answered, Refused as Denied}
-use Rattle.access.specs.Parts.{heldStatus, emptyExtent, heldWords, heldExtent}
+use Rattle.access.specs.Parts.{emptyExtent, heldWords, heldOf}
 
 -- ---- chunk i
 
@@ -57,8 +57,8 @@ module _ (s : List ℕ) (g : Shape) (i w : ℕ) (h : Shaped s g) (ew : w ≡ lin
 
 -- ---- the answers on chunk i of an image that load has refused, and of one that it has passed
 
-pub extent-refused : (s : List ℕ) (i : ℕ) (r : Refusal) → verdict s ≡ Refused r → emptyExtent ≡ heldExtent s i
-extent-refused s i r e = rw e
+pub held-refused : (s : List ℕ) (i : ℕ) (r : Refusal) → verdict s ≡ Refused r → record { status = Denied r; extent = emptyExtent } ≡ heldOf s i
+held-refused s i r e = rw e
 
 module _ (s : List ℕ) (l : Loaded) (k : Known s l) (i : ℕ) where
   chunks : l .shape .c ≡ shapeOf s .c
@@ -67,14 +67,8 @@ module _ (s : List ℕ) (l : Loaded) (k : Known s l) (i : ℕ) where
   pub known-link : i < l .shape .c → goodLink s i ≡ true
   known-link b = k .sound .links i (omega (arith, chunks))
 
-  pub status-in : i < l .shape .c → Answered ≡ heldStatus s i
-  status-in b = rw (k .passed, lt-ltb i (shapeOf s .c) (omega (arith, chunks)))
+  pub held-in : i < l .shape .c → (e : Extent) → e ≡ heldWords s i → record { status = Answered; extent = e } ≡ heldOf s i
+  held-in b e h = rw (k .passed, lt-ltb i (shapeOf s .c) (omega (arith, chunks)), h)
 
-  pub status-out : l .shape .c ≤ i → Denied Range ≡ heldStatus s i
-  status-out b = rw (k .passed, le-ltb i (shapeOf s .c) (omega (arith, chunks)))
-
-  pub extent-in : i < l .shape .c → heldWords s i ≡ heldExtent s i
-  extent-in b = rw (k .passed, lt-ltb i (shapeOf s .c) (omega (arith, chunks)))
-
-  pub extent-out : l .shape .c ≤ i → emptyExtent ≡ heldExtent s i
-  extent-out b = rw (k .passed, le-ltb i (shapeOf s .c) (omega (arith, chunks)))
+  pub held-out : l .shape .c ≤ i → record { status = Denied Range; extent = emptyExtent } ≡ heldOf s i
+  held-out b = rw (k .passed, le-ltb i (shapeOf s .c) (omega (arith, chunks)))

@@ -10,6 +10,7 @@ use Rattle.image.specs.Soundness.{mapped, unitsOf}
 use Rattle.image.specs.Verdicts.{verdict}
 use Rattle.image.specs.Answers.{ifSound}
 use Rattle.access.specs.declared.Extent.{Extent}
+use Rattle.access.specs.declared.Held.{Held}
 use Rattle.access.specs.declared.Status.{Status}
 use Rattle.access.specs.declared.Status.the-variants.{Answered, Refused as Denied}
 
@@ -36,6 +37,10 @@ ifAnswered (Denied r) e = emptyExtent
 -- where the part that `held` hands back stands, for any image and chunk number
 abbrev pub heldExtent : List ℕ → ℕ → Extent
 heldExtent s i = ifAnswered (heldStatus s i) (heldWords s i)
+
+-- both at once, as one load finds them
+abbrev pub heldOf : List ℕ → ℕ → Held
+heldOf s i = record { status = heldStatus s i; extent = heldExtent s i }
 
 -- "that part of the caller's own image"
 abbrev pub part : List ℕ → Extent → List ℕ

@@ -39,3 +39,9 @@ pub struct Extent {
     pub start: usize,
     pub end: usize,
 }
+
+// What is held for a chunk: whether the question is answered, and where its held words stand.
+pub struct Held {
+    pub status: Status,
+    pub extent: Extent,
+}

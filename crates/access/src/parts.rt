@@ -1,5 +1,6 @@
 // The held words of a chunk's map, as a part of the lent image.
 use crate::Extent;
+use crate::Held;
 use crate::Status;
 use image::Verdict;
 use image::load::load;
@@ -13,7 +14,7 @@ ghost use Prim.Native.Nat.{_<_, _≤_};
 ghost use lib.ListN.{length};
 ghost use Rattle.layout.specs.Shaped.{Shaped};
 ghost use Rattle.image.specs.Verdicts.{goodLink};
-ghost use Rattle.access.specs.Parts.{heldWords, heldExtent, heldPart, heldStatus};
+ghost use Rattle.access.specs.Parts.{heldWords, heldExtent, heldPart, heldStatus, heldOf};
 
 // Where the held words of chunk i's map stand, in a sound image.
 fn held_words(image: &[u8], g: Shape, i: usize) -> Extent
@@ -34,23 +35,44 @@ fn held_words(image: &[u8], g: Shape, i: usize) -> Extent
     Extent { start, end }
 }
 
-// Where a chunk's held words stand in the image: an empty extent for an unmapped chunk or a refusal.
-pub fn held_extent(image: &[u8], chunk: u64) -> Extent
-    ensures { λ r. ⌜ (r ≡ heldExtent (now (image .entry)) chunk) × (r .start ≤ r .end) × (r .end ≤ length (now (image .entry))) ⌝ }
+// A chunk's held words, for any image and chunk number: whether the question is answered, and where they stand. One load serves both.
+pub fn find_held(image: &[u8], chunk: u64) -> Held
+    ensures { λ r. ⌜
+        (r ≡ heldOf (now (image .entry)) chunk) × (r .extent .start ≤ r .extent .end) × (r .extent .end ≤ length (now (image .entry)))
+        ⌝ }
 {
+    let none = Extent { start: 0, end: 0 };
     let l = load(image);
     let v = l.verdict;
     match v {
-        Verdict::Refused(_) => Extent { start: 0, end: 0 },
+        Verdict::Refused(r) => Held {
+            status: Status::Refused(r),
+            extent: none,
+        },
         Verdict::Passed => {
             let g = l.shape;
             let c = g.c as u64;
             if chunk < c {
-                return held_words(image, g, chunk as usize);
+                let extent = held_words(image, g, chunk as usize);
+                return Held {
+                    status: Status::Answered,
+                    extent,
+                };
             }
-            Extent { start: 0, end: 0 }
+            Held {
+                status: Status::Refused(Refusal::Range),
+                extent: none,
+            }
         }
     }
+}
+
+// Where a chunk's held words stand in the image: an empty extent for an unmapped chunk or a refusal.
+pub fn held_extent(image: &[u8], chunk: u64) -> Extent
+    ensures { λ r. ⌜ (r ≡ heldExtent (now (image .entry)) chunk) × (r .start ≤ r .end) × (r .end ≤ length (now (image .entry))) ⌝ }
+{
+    let h = find_held(image, chunk);
+    h.extent
 }
 
 // The held words of a chunk's map, as that part of the caller's own image; an empty part for an unmapped chunk or a refusal.
@@ -67,17 +89,6 @@ pub fn held(image: &[u8], chunk: u64) -> &[u8]
 pub fn held_status(image: &[u8], chunk: u64) -> Status
     ensures { λ r. ⌜ r ≡ heldStatus (now (image .entry)) chunk ⌝ }
 {
-    let l = load(image);
-    let v = l.verdict;
-    match v {
-        Verdict::Refused(r) => Status::Refused(r),
-        Verdict::Passed => {
-            let g = l.shape;
-            let c = g.c as u64;
-            if chunk < c {
-                return Status::Answered;
-            }
-            Status::Refused(Refusal::Range)
-        }
-    }
+    let h = find_held(image, chunk);
+    h.status
 }
