@@ -1,0 +1,44 @@
+use borrow.Author.Needs.{needs}
+use Rattle.sumbilak.proofs.answers.alarm.Statement.{statement}
+use Rattle.sumbilak.proofs.answers.alarm.Tie as tie
+
+enum-told : tie.Need-enum-told
+enum-told c = search needs
+
+given-requires : tie.Need-given-requires
+given-requires c κs = search needs
+
+enum-told-2 : tie.Need-enum-told-2
+enum-told-2 c = search needs
+
+given-requires-2 : tie.Need-given-requires-2
+given-requires-2 c κs = search needs
+
+enum-known-x : tie.Need-enum-known-x
+enum-known-x c = search needs
+
+refused-requires : tie.Need-refused-requires
+refused-requires c κs = search needs
+
+returns : tie.Need-returns
+returns c = cc
+
+returns-2 : tie.Need-returns-2
+returns-2 c = cc
+
+returns-3 : tie.Need-returns-3
+returns-3 c = cc
+
+pub alarm-spec : {M : Type 1} → statement M
+alarm-spec =
+    tie.close
+    (tie.spec
+    enum-told
+    given-requires
+    enum-told-2
+    given-requires-2
+    enum-known-x
+    refused-requires
+    returns
+    returns-2
+    returns-3)

@@ -1,0 +1,36 @@
+use borrow.Author.Needs.{needs}
+use Rattle.sumbilak.proofs.answers.held.Statement.{statement}
+use Rattle.sumbilak.proofs.answers.held.Tie as tie
+
+enum-told : tie.Need-enum-told
+enum-told c = search needs
+
+sub-given : tie.Need-sub-given
+sub-given c = search needs
+
+given-requires : tie.Need-given-requires
+given-requires c κs = search needs
+
+enum-known-status : tie.Need-enum-known-status
+enum-known-status c = search needs
+
+refused-requires : tie.Need-refused-requires
+refused-requires c κs = search needs
+
+returns : tie.Need-returns
+returns c = cc
+
+returns-2 : tie.Need-returns-2
+returns-2 c = cc
+
+pub held-spec : {M : Type 1} → statement M
+held-spec =
+    tie.close
+    (tie.spec
+    enum-told
+    sub-given
+    given-requires
+    enum-known-status
+    refused-requires
+    returns
+    returns-2)

@@ -1,0 +1,24 @@
+use borrow.Author.Needs.{needs}
+use Rattle.sumbilak.proofs.answers.reported.Statement.{statement}
+use Rattle.sumbilak.proofs.answers.reported.Tie as tie
+
+verdict-requires : tie.Need-verdict-requires
+verdict-requires c κs = search needs
+
+cast-t5 : tie.Need-cast-t5
+cast-t5 c = search needs
+
+cast-t6 : tie.Need-cast-t6
+cast-t6 c = search needs
+
+cast-t7 : tie.Need-cast-t7
+cast-t7 c = search needs
+
+cast-t8 : tie.Need-cast-t8
+cast-t8 c = search needs
+
+returns : tie.Need-returns
+returns c = cc
+
+pub reported-spec : {M : Type 1} → statement M
+reported-spec = tie.close (tie.spec verdict-requires cast-t5 cast-t6 cast-t7 cast-t8 returns)

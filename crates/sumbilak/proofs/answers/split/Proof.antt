@@ -1,0 +1,36 @@
+use borrow.Author.Needs.{needs}
+use Rattle.sumbilak.proofs.answers.split.Statement.{statement}
+use Rattle.sumbilak.proofs.answers.split.Tie as tie
+
+enum-known-x : tie.Need-enum-known-x
+enum-known-x c = search needs
+
+cast-given : tie.Need-cast-given
+cast-given c = search needs
+
+given-requires : tie.Need-given-requires
+given-requires c κs = search needs
+
+enum-known-x-2 : tie.Need-enum-known-x-2
+enum-known-x-2 c = search needs
+
+refused-requires : tie.Need-refused-requires
+refused-requires c κs = search needs
+
+returns : tie.Need-returns
+returns c = cc
+
+returns-2 : tie.Need-returns-2
+returns-2 c = cc
+
+pub split-spec : {M : Type 1} → statement M
+split-spec =
+    tie.close
+    (tie.spec
+    enum-known-x
+    cast-given
+    given-requires
+    enum-known-x-2
+    refused-requires
+    returns
+    returns-2)

@@ -1,0 +1,15 @@
+use borrow.Author.Needs.{needs}
+use Rattle.sumbilak.proofs.calls.sumbilak_alarm_count.Statement.{statement}
+use Rattle.sumbilak.proofs.calls.sumbilak_alarm_count.Tie as tie
+
+alarm-requires : tie.Need-alarm-requires
+alarm-requires c κs = search needs
+
+alarm-requires-2 : tie.Need-alarm-requires-2
+alarm-requires-2 c κs = search needs
+
+returns : tie.Need-returns
+returns c = cc
+
+pub sumbilak-alarm-count-spec : {M : Type 1} → statement M
+sumbilak-alarm-count-spec = tie.close (tie.spec alarm-requires alarm-requires-2 returns)

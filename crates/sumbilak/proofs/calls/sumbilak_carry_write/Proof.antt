@@ -1,0 +1,21 @@
+use mathlib.Core.Path.{ap, _∙_}
+use Rattle.sumbilak.specs.Answers.{checkedAnswer}
+use borrow.Author.Needs.{needs}
+use Rattle.sumbilak.proofs.calls.sumbilak_carry_write.Statement.{statement}
+use Rattle.sumbilak.proofs.calls.sumbilak_carry_write.Tie as tie
+
+carry-requires : tie.Need-carry-requires
+carry-requires c κs = search needs
+
+checked-requires : tie.Need-checked-requires
+checked-requires c κs = search needs
+
+same-length : tie.Need-same-length
+same-length c = search needs
+
+returns : tie.Need-returns
+returns c = (c .checked .ensures ∙ ap checkedAnswer (c .before .before .before .carry .ensures .0), c .before .before .before .carry .ensures .1)
+
+pub sumbilak-carry-write-spec : {M : Type 1} → statement M
+sumbilak-carry-write-spec =
+    tie.close (tie.spec carry-requires checked-requires same-length returns)

@@ -1,0 +1,15 @@
+use borrow.Author.Needs.{needs}
+use Rattle.sumbilak.proofs.calls.sumbilak_check_discard.Statement.{statement}
+use Rattle.sumbilak.proofs.calls.sumbilak_check_discard.Tie as tie
+
+check-requires : tie.Need-check-requires
+check-requires c κs = search needs
+
+checked-requires : tie.Need-checked-requires
+checked-requires c κs = search needs
+
+returns : tie.Need-returns
+returns c = cc
+
+pub sumbilak-check-discard-spec : {M : Type 1} → statement M
+sumbilak-check-discard-spec = tie.close (tie.spec check-requires checked-requires returns)

@@ -1,0 +1,17 @@
+use mathlib.Core.Path.{ap, _∙_}
+use Rattle.sumbilak.specs.Answers.{heldAnswer}
+use borrow.Author.Needs.{needs}
+use Rattle.sumbilak.proofs.calls.sumbilak_held.Statement.{statement}
+use Rattle.sumbilak.proofs.calls.sumbilak_held.Tie as tie
+
+find-held-requires : tie.Need-find-held-requires
+find-held-requires c κs = search needs
+
+held-requires : tie.Need-held-requires
+held-requires c κs = search needs
+
+returns : tie.Need-returns
+returns c = c .held .ensures ∙ ap heldAnswer (c .before .find-held .ensures .0)
+
+pub sumbilak-held-spec : {M : Type 1} → statement M
+sumbilak-held-spec = tie.close (tie.spec find-held-requires held-requires returns)

@@ -1,0 +1,21 @@
+use mathlib.Core.Path.{ap, _∙_}
+use Rattle.sumbilak.specs.Answers.{plannedAnswer}
+use borrow.Author.Needs.{needs}
+use Rattle.sumbilak.proofs.calls.sumbilak_plan_discard.Statement.{statement}
+use Rattle.sumbilak.proofs.calls.sumbilak_plan_discard.Tie as tie
+
+plan-discard-requires : tie.Need-plan-discard-requires
+plan-discard-requires c κs = search needs
+
+planned-requires : tie.Need-planned-requires
+planned-requires c κs = search needs
+
+same-length : tie.Need-same-length
+same-length c = search needs
+
+returns : tie.Need-returns
+returns c = (c .planned .ensures ∙ ap plannedAnswer (c .before .before .before .plan-discard .ensures .0), c .before .before .before .plan-discard .ensures .1)
+
+pub sumbilak-plan-discard-spec : {M : Type 1} → statement M
+sumbilak-plan-discard-spec =
+    tie.close (tie.spec plan-discard-requires planned-requires same-length returns)

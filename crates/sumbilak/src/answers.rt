@@ -1,0 +1,146 @@
+// Answers as numbers.
+use crate::Answer;
+use crate::ReportAnswer;
+use access::Access;
+use access::Held;
+use access::Split;
+use access::Status;
+use checker::Checked;
+use image::Verdict;
+use layout::Formatted;
+use layout::Refusal;
+use layout::refusals;
+use planner::Planned;
+use report::Alarm;
+use report::Reported;
+ghost use mathlib.Core.Path.{_≡_};
+ghost use Prim.Native.Nat.{_≤_};
+ghost use Rattle.sumbilak.specs.Answers;
+
+// An answer with its value and extent.
+pub(crate) fn given(value: u64, extent: u64) -> Answer
+    ensures { λ a. ⌜ a ≡ Answers.given value extent ⌝ }
+{
+    Answer {
+        number: 0,
+        place: 0,
+        second: 0,
+        value,
+        extent,
+    }
+}
+
+// A refusal with its number and place.
+pub(crate) fn refused(r: Refusal) -> Answer
+    ensures { λ a. ⌜ a ≡ Answers.refused r ⌝ }
+{
+    let number = refusals::number(r) as u64;
+    let place = refusals::place(r) as u64;
+    let second = refusals::second_place(r) as u64;
+    Answer {
+        number,
+        place,
+        second,
+        value: 0,
+        extent: 0,
+    }
+}
+
+pub(crate) fn formatted(x: Formatted) -> Answer
+    ensures { λ a. ⌜ a ≡ Answers.formattedAnswer x ⌝ }
+{
+    match x {
+        Formatted::Done => given(0, 0),
+        Formatted::Refused(r) => refused(r),
+    }
+}
+
+pub(crate) fn checked(x: Checked) -> Answer
+    ensures { λ a. ⌜ a ≡ Answers.checkedAnswer x ⌝ }
+{
+    match x {
+        Checked::Accepted => given(0, 0),
+        Checked::Refused(r) => refused(r),
+    }
+}
+
+pub(crate) fn split(x: Split) -> Answer
+    ensures { λ a. ⌜ a ≡ Answers.splitAnswers x ⌝ }
+{
+    match x {
+        Split::Pieces(n) => given(n as u64, 0),
+        Split::Refused(r) => refused(r),
+    }
+}
+
+pub(crate) fn planned(x: Planned) -> Answer
+    ensures { λ a. ⌜ a ≡ Answers.plannedAnswer x ⌝ }
+{
+    match x {
+        Planned::Steps(n) => given(n as u64, 0),
+        Planned::Refused(r) => refused(r),
+    }
+}
+
+pub(crate) fn access(x: Access) -> Answer
+    ensures { λ a. ⌜ a ≡ Answers.accessAnswers x ⌝ }
+{
+    match x {
+        Access::Nothing => given(0, 0),
+        Access::Zeros => given(1, 0),
+        Access::Chunk => given(2, 0),
+        Access::Refused(r) => refused(r),
+    }
+}
+
+pub(crate) fn held(x: Held) -> Answer
+    requires { ⌜ x .extent .start ≤ x .extent .end ⌝ }
+    ensures { λ a. ⌜ a ≡ Answers.heldAnswer x ⌝ }
+{
+    let e = x.extent;
+    let start = e.start;
+    let end = e.end;
+    let status = x.status;
+    match status {
+        Status::Answered => given(start as u64, (end - start) as u64),
+        Status::Refused(r) => refused(r),
+    }
+}
+
+pub(crate) fn alarm(x: Alarm) -> Answer
+    ensures { λ a. ⌜ a ≡ Answers.alarmAnswers x ⌝ }
+{
+    match x {
+        Alarm::Silent => given(0, 0),
+        Alarm::Sounds => given(1, 0),
+        Alarm::Refused(r) => refused(r),
+    }
+}
+
+fn verdict(x: Verdict) -> Answer
+    ensures { λ a. ⌜ a ≡ Answers.verdictAnswer x ⌝ }
+{
+    match x {
+        Verdict::Passed => given(0, 0),
+        Verdict::Refused(r) => refused(r),
+    }
+}
+
+pub(crate) fn reported(x: Reported) -> ReportAnswer
+    ensures { λ a. ⌜ a ≡ Answers.reportedAnswer x ⌝ }
+{
+    let v = x.verdict;
+    let a = verdict(v);
+    let figures = x.report;
+    ReportAnswer {
+        number: a.number,
+        place: a.place,
+        second: a.second,
+        mapped: figures.mapped as u64,
+        held: figures.held as u64,
+        free: figures.free as u64,
+        saved: figures.saved as u64,
+        held_ratio: figures.held_ratio,
+        saved_ratio: figures.saved_ratio,
+    }
+}

@@ -1,0 +1,148 @@
+// The exported functions: each hands its arguments on and its answer back as numbers.
+use crate::Answer;
+use crate::ReportAnswer;
+use crate::answers;
+use crate::loading;
+use report::Level;
+use steps::Request;
+ghost use mathlib.Core.Path.{_≡_};
+ghost use lib.ListN.{length};
+ghost use Rattle.layout.specs.Format.{formatAnswer, formatImage};
+ghost use Rattle.access.specs.Ranges.{splitAnswer, splitOut, accessAnswer};
+ghost use Rattle.access.specs.Parts.{heldOf};
+ghost use Rattle.report.specs.Reports.{reportAnswer};
+ghost use Rattle.report.specs.Alarms.{alarmAnswer};
+ghost use Rattle.planner.specs.Planner.{planAnswer, planOut};
+ghost use Rattle.checker.specs.Rules.{checked};
+ghost use Rattle.carry.specs.Carry.{carryAnswer, carryImage};
+ghost use Rattle.sumbilak.specs.Loading.{loadAnswer, loadOut};
+ghost use Rattle.sumbilak.specs.Answers.{formattedAnswer, splitAnswers, accessAnswers, heldAnswer, plannedAnswer, checkedAnswer, reportedAnswer, alarmAnswers};
+
+#[no_mangle]
+pub extern "C" fn sumbilak_format(image: &mut [u8], p: u64, c: u64, m: u64, n: u64) -> Answer
+    ensures { λ r. ⌜ r ≡ formattedAnswer (formatAnswer (record { p = p; c = c; m = m; n = n }) (now (image .entry))) ⌝ }
+    ensures { λ r. ⌜ now (image .exit) ≡ formatImage (record { p = p; c = c; m = m; n = n }) (now (image .entry)) ⌝ }
+{
+    let x = layout::format::format(image, p, c, m, n);
+    answers::formatted(x)
+}
+
+#[no_mangle]
+pub extern "C" fn sumbilak_load(image: &[u8], out: &mut [u64]) -> Answer
+    ensures { λ r. ⌜ r ≡ loadAnswer (now (image .entry)) (length (now (out .entry))) ⌝ }
+    ensures { λ r. ⌜ now (out .exit) ≡ loadOut (now (image .entry)) (now (out .entry)) ⌝ }
+{
+    loading::load(image, out)
+}
+
+#[no_mangle]
+pub extern "C" fn sumbilak_split(image: &[u8], offset: u64, span: u64, out: &mut [u8]) -> Answer
+    ensures { λ r. ⌜ r ≡ splitAnswers (splitAnswer (now (image .entry)) offset span (length (now (out .entry)))) ⌝ }
+    ensures { λ r. ⌜ now (out .exit) ≡ splitOut (now (image .entry)) offset span (now (out .entry)) ⌝ }
+{
+    let x = access::ranges::split(image, offset, span, out);
+    answers::split(x)
+}
+
+#[no_mangle]
+pub extern "C" fn sumbilak_access(image: &[u8], write: bool, offset: u64, span: u64) -> Answer
+    ensures { λ r. ⌜ r ≡ accessAnswers (accessAnswer (now (image .entry)) write offset span) ⌝ }
+{
+    let x = access::ranges::access(image, write, offset, span);
+    answers::access(x)
+}
+
+#[no_mangle]
+pub extern "C" fn sumbilak_held(image: &[u8], chunk: u64) -> Answer
+    ensures { λ r. ⌜ r ≡ heldAnswer (heldOf (now (image .entry)) chunk) ⌝ }
+{
+    let x = access::parts::find_held(image, chunk);
+    answers::held(x)
+}
+
+#[no_mangle]
+pub extern "C" fn sumbilak_plan_write(image: &[u8], chunk: u64, size: u64, out: &mut [u8]) -> Answer
+    ensures { λ r. ⌜ r ≡ plannedAnswer (planAnswer (now (image .entry)) (Request.Write chunk size) (length (now (out .entry)))) ⌝ }
+    ensures { λ r. ⌜ now (out .exit) ≡ planOut (now (image .entry)) (Request.Write chunk size) (now (out .entry)) ⌝ }
+{
+    let x = planner::plan::plan_write(image, chunk, size, out);
+    answers::planned(x)
+}
+
+#[no_mangle]
+pub extern "C" fn sumbilak_plan_discard(image: &[u8], chunk: u64, out: &mut [u8]) -> Answer
+    ensures { λ r. ⌜ r ≡ plannedAnswer (planAnswer (now (image .entry)) (Request.Discard chunk) (length (now (out .entry)))) ⌝ }
+    ensures { λ r. ⌜ now (out .exit) ≡ planOut (now (image .entry)) (Request.Discard chunk) (now (out .entry)) ⌝ }
+{
+    let x = planner::plan::plan_discard(image, chunk, out);
+    answers::planned(x)
+}
+
+#[no_mangle]
+pub extern "C" fn sumbilak_check_write(image: &[u8], chunk: u64, size: u64, plan: &[u8]) -> Answer
+    ensures { λ r. ⌜ r ≡ checkedAnswer (checked (now (image .entry)) (Request.Write chunk size) (now (plan .entry))) ⌝ }
+{
+    let x = checker::check::check(image, Request::Write { chunk, size }, plan);
+    answers::checked(x)
+}
+
+#[no_mangle]
+pub extern "C" fn sumbilak_check_discard(image: &[u8], chunk: u64, plan: &[u8]) -> Answer
+    ensures { λ r. ⌜ r ≡ checkedAnswer (checked (now (image .entry)) (Request.Discard chunk) (now (plan .entry))) ⌝ }
+{
+    let x = checker::check::check(image, Request::Discard { chunk }, plan);
+    answers::checked(x)
+}
+
+#[no_mangle]
+pub extern "C" fn sumbilak_carry_write(
+    image: &mut [u8],
+    chunk: u64,
+    size: u64,
+    plan: &[u8],
+    n: u64,
+) -> Answer
+    ensures { λ r. ⌜ r ≡ checkedAnswer (carryAnswer (now (image .entry)) (Request.Write chunk size) (now (plan .entry)) n) ⌝ }
+    ensures { λ r. ⌜ now (image .exit) ≡ carryImage (now (image .entry)) (Request.Write chunk size) (now (plan .entry)) n ⌝ }
+{
+    let x = carry::carry(image, Request::Write { chunk, size }, plan, n);
+    answers::checked(x)
+}
+
+#[no_mangle]
+pub extern "C" fn sumbilak_carry_discard(
+    image: &mut [u8],
+    chunk: u64,
+    plan: &[u8],
+    n: u64,
+) -> Answer
+    ensures { λ r. ⌜ r ≡ checkedAnswer (carryAnswer (now (image .entry)) (Request.Discard chunk) (now (plan .entry)) n) ⌝ }
+    ensures { λ r. ⌜ now (image .exit) ≡ carryImage (now (image .entry)) (Request.Discard chunk) (now (plan .entry)) n ⌝ }
+{
+    let x = carry::carry(image, Request::Discard { chunk }, plan, n);
+    answers::checked(x)
+}
+
+#[no_mangle]
+pub extern "C" fn sumbilak_report(image: &[u8]) -> ReportAnswer
+    ensures { λ r. ⌜ r ≡ reportedAnswer (reportAnswer (now (image .entry))) ⌝ }
+{
+    let x = report::reports::report(image);
+    answers::reported(x)
+}
+
+#[no_mangle]
+pub extern "C" fn sumbilak_alarm_count(image: &[u8], units: u64) -> Answer
+    ensures { λ r. ⌜ r ≡ alarmAnswers (alarmAnswer (now (image .entry)) (Level.Count units)) ⌝ }
+{
+    let x = report::alarms::alarm(image, Level::Count(units));
+    answers::alarm(x)
+}
+
+#[no_mangle]
+pub extern "C" fn sumbilak_alarm_fraction(image: &[u8], fraction: f64) -> Answer
+    ensures { λ r. ⌜ r ≡ alarmAnswers (alarmAnswer (now (image .entry)) (Level.Fraction fraction)) ⌝ }
+{
+    let x = report::alarms::alarm(image, Level::Fraction(fraction));
+    answers::alarm(x)
+}

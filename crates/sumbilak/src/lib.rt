@@ -1,0 +1,28 @@
+// The C interface: one exported function for every entry point, on numbers and lent slices. include/sumbilak.h declares them.
+mod answers;
+mod calls;
+mod loading;
+
+// What a call answers: number 0, with a value and an extent; or a refusal's number and place (the second for 6 alone), with value and extent 0.
+#[repr(C)]
+pub struct Answer {
+    pub number: u64,
+    pub place: u64,
+    pub second: u64,
+    pub value: u64,
+    pub extent: u64,
+}
+
+// What a report answers: the same numbers, and the report's record, all 0 on a refusal.
+#[repr(C)]
+pub struct ReportAnswer {
+    pub number: u64,
+    pub place: u64,
+    pub second: u64,
+    pub mapped: u64,
+    pub held: u64,
+    pub free: u64,
+    pub saved: u64,
+    pub held_ratio: f64,
+    pub saved_ratio: f64,
+}

@@ -1,0 +1,80 @@
+// Load with its answer in a lent output of words.
+use crate::Answer;
+use crate::answers::given;
+use crate::answers::refused;
+use image::Loaded;
+use image::MAP_SET_WORDS;
+use image::UNIT_SET_WORDS;
+use image::Verdict;
+use layout::Refusal;
+use layout::Shape;
+ghost use mathlib.Core.Path.{_≡_};
+ghost use Prim.Native.Nat.{_+_, _≤_};
+ghost use lib.ListN.{length};
+ghost use lib.Seq.{sets};
+ghost use Rattle.sumbilak.specs.Loading.{loadWords, shapeWords, wordsOf, loadAnswer, loadOut};
+
+// P, C, M and N, and where the two sets begin and end in the output.
+const UNITS_AT: usize = 4;
+
+const MAPS_AT: usize = UNITS_AT + UNIT_SET_WORDS;
+
+const LOAD_WORDS: usize = MAPS_AT + MAP_SET_WORDS;
+
+const LOAD_BYTES: u32 = 8 * LOAD_WORDS as u32;
+
+// Stores the words of a set from `at` on.
+fn put_words(out: &mut [u64], at: usize, words: &[u64])
+    requires { ⌜ at + length (now words) ≤ length (now out) ⌝ }
+    ensures { λ r. ⌜ now (out .exit) ≡ sets (now (out .entry)) at (now (words .entry)) ⌝ }
+{
+    let n = words.len();
+    let mut i: usize = 0;
+    while i < n {
+        out[at + i] = words[i];
+        i += 1;
+    }
+}
+
+// Stores P, C, M and N.
+fn put_shape(out: &mut [u64], g: Shape)
+    requires { ⌜ 4 ≤ length (now out) ⌝ }
+    ensures { λ r. ⌜ now (out .exit) ≡ sets (now (out .entry)) 0 (shapeWords g) ⌝ }
+{
+    out[0] = g.p as u64;
+    out[1] = g.c as u64;
+    out[2] = g.m as u64;
+    out[3] = g.n as u64;
+}
+
+// Stores what load answered.
+fn put_loaded(out: &mut [u64], l: Loaded)
+    requires { ⌜ loadWords ≤ length (now out) ⌝ }
+    ensures { λ r. ⌜ now (out .exit) ≡ sets (now (out .entry)) 0 (wordsOf l) ⌝ }
+{
+    let g = l.shape;
+    let units = l.units;
+    let maps = l.maps;
+    put_shape(out, g);
+    put_words(out, UNITS_AT, &units);
+    put_words(out, MAPS_AT, &maps);
+}
+
+// Loads an image into a lent output of at least 81 words.
+pub(crate) fn load(image: &[u8], out: &mut [u64]) -> Answer
+    ensures { λ r. ⌜ r ≡ loadAnswer (now (image .entry)) (length (now (out .entry))) ⌝ }
+    ensures { λ r. ⌜ now (out .exit) ≡ loadOut (now (image .entry)) (now (out .entry)) ⌝ }
+{
+    let l = image::load::load(image);
+    let v = l.verdict;
+    match v {
+        Verdict::Refused(r) => refused(r),
+        Verdict::Passed => {
+            if out.len() < LOAD_WORDS {
+                return refused(Refusal::Small(LOAD_BYTES));
+            }
+            put_loaded(out, l);
+            given(0, 0)
+        }
+    }
+}
