@@ -1,4 +1,6 @@
+use mathlib.Core.Path.{ap, _∙_}
 use borrow.Author.Needs.{needs}
+use Rattle.sumbilak.specs.Answers.{alarmAnswers}
 use Rattle.sumbilak.proofs.calls.sumbilak_alarm_count.Statement.{statement}
 use Rattle.sumbilak.proofs.calls.sumbilak_alarm_count.Tie as tie
 
@@ -9,7 +11,7 @@ alarm-requires-2 : tie.Need-alarm-requires-2
 alarm-requires-2 c κs = search needs
 
 returns : tie.Need-returns
-returns c = cc
+returns c = c .alarm2 .ensures ∙ ap alarmAnswers (c .before .alarm .ensures)
 
 pub sumbilak-alarm-count-spec : {M : Type 1} → statement M
 sumbilak-alarm-count-spec = tie.close (tie.spec alarm-requires alarm-requires-2 returns)

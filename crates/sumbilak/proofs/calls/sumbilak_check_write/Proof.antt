@@ -1,4 +1,6 @@
+use mathlib.Core.Path.{ap, _∙_}
 use borrow.Author.Needs.{needs}
+use Rattle.sumbilak.specs.Answers.{checkedAnswer}
 use Rattle.sumbilak.proofs.calls.sumbilak_check_write.Statement.{statement}
 use Rattle.sumbilak.proofs.calls.sumbilak_check_write.Tie as tie
 
@@ -9,7 +11,7 @@ checked-requires : tie.Need-checked-requires
 checked-requires c κs = search needs
 
 returns : tie.Need-returns
-returns c = cc
+returns c = c .checked .ensures ∙ ap checkedAnswer (c .before .check .ensures)
 
 pub sumbilak-check-write-spec : {M : Type 1} → statement M
 sumbilak-check-write-spec = tie.close (tie.spec check-requires checked-requires returns)

@@ -1,4 +1,6 @@
+use mathlib.Core.Path.{ap, _∙_}
 use borrow.Author.Needs.{needs}
+use Rattle.sumbilak.specs.Answers.{reportedAnswer}
 use Rattle.sumbilak.proofs.calls.sumbilak_report.Statement.{statement}
 use Rattle.sumbilak.proofs.calls.sumbilak_report.Tie as tie
 
@@ -9,7 +11,7 @@ reported-requires : tie.Need-reported-requires
 reported-requires c κs = search needs
 
 returns : tie.Need-returns
-returns c = cc
+returns c = c .reported .ensures ∙ ap reportedAnswer (c .before .report .ensures)
 
 pub sumbilak-report-spec : {M : Type 1} → statement M
 sumbilak-report-spec = tie.close (tie.spec report-requires reported-requires returns)

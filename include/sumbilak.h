@@ -1,0 +1,145 @@
+/* Sumbilak: the proved metadata layer of compressed volumes, for firmware in C.
+ *
+ * Build the archive with `rt staticlib sumbilak` and link target/staticlib/libsumbilak.a. It needs memcpy and memset and nothing else: no heap, no
+ * locks, no global state, no input or output. Each call works on the bytes that it is lent and ends.
+ *
+ * An image is the metadata of one volume: C logical entries, M chunk maps of P words, and a 32-byte trailer; at most 38,944 bytes. A unit is 4,096 bytes.
+ *
+ * Slices. A slice is a pointer and a number of elements. (NULL, 0) is an empty slice; otherwise the pointer leads to that many elements, aligned to
+ * their type. A slice that is written overlaps no other argument. These are the only things a caller has to see to: any bytes and any numbers get an
+ * answer, and nobody has to check first.
+ *
+ * Answers. number 0 is an answer, with value and extent as each call says. Any other number is a refusal:
+ *
+ *    no.  name        when                                                          place
+ *     1   SHORT       image under 32 bytes                                          0
+ *     2   FOREIGN     first four trailer bytes or version wrong                     0
+ *     3   GEOMETRY    a limit broken, or a distance or length that disagrees        0
+ *     4   BAD LINK    entry neither absent nor below M                              lowest such chunk
+ *     5   BAD MAP     a named map of the wrong form                                 lowest such chunk
+ *     6   SHARED      a map or unit claimed twice                                   the two chunks: place and second
+ *     7   RANGE       chunk not below C; byte range empty, off the 4,096 grain,     0
+ *                     past the volume's end or (access) across chunks; step count
+ *                     above the plan's whole steps
+ *     8   SIZE        compressed size 0 or above P * 4,096                          0
+ *     9   NO ROOM     fewer units free than the write needs                         free units
+ *    10   SMALL       lent output too short                                         bytes needed
+ *    11   BAD PLAN    a plan rule broken                                            lowest rule broken, 1 to 5
+ *    12   BAD ALARM   fraction not a number, below 0 or above 1                     0
+ *
+ * Every call but format first applies 1 to 6 to its image. The lowest number wins. A refusal leaves every lent byte as it was, and value, extent and all
+ * that a report has are 0. An answer writes what its comment says and no other byte.
+ */
+#ifndef SUMBILAK_H
+#define SUMBILAK_H
+
+#include <stdbool.h>
+#include <stddef.h>
+#include <stdint.h>
+
+#ifdef __cplusplus
+extern "C" {
+#endif
+
+/* Sizes that a caller may want for its buffers. */
+enum {
+    SUMBILAK_UNIT_BYTES = 4096,       /* a backing unit */
+    SUMBILAK_MAX_IMAGE_BYTES = 38944, /* the largest image: P = 16, C = 256, M = 288 */
+    SUMBILAK_LOAD_WORDS = 81,         /* what sumbilak_load writes */
+    SUMBILAK_STEP_BYTES = 16,         /* a step of a plan */
+    SUMBILAK_MAX_PLAN_STEPS = 64,     /* the longest plan that the checker accepts */
+    SUMBILAK_MAX_WRITE_STEPS = 35,    /* the longest that the planner writes: P = 16, stored raw */
+    SUMBILAK_PIECE_BYTES = 12         /* a piece of a split */
+};
+
+/* The bytes of an image with p units in a chunk, c chunks and m chunk maps. */
+#define SUMBILAK_IMAGE_BYTES(p, c, m) (8 * (c) + 8 * (m) * (p) + 32)
+
+enum {
+    SUMBILAK_ANSWERED = 0,
+    SUMBILAK_SHORT = 1,
+    SUMBILAK_FOREIGN = 2,
+    SUMBILAK_GEOMETRY = 3,
+    SUMBILAK_BAD_LINK = 4,
+    SUMBILAK_BAD_MAP = 5,
+    SUMBILAK_SHARED = 6,
+    SUMBILAK_RANGE = 7,
+    SUMBILAK_SIZE = 8,
+    SUMBILAK_NO_ROOM = 9,
+    SUMBILAK_SMALL = 10,
+    SUMBILAK_BAD_PLAN = 11,
+    SUMBILAK_BAD_ALARM = 12
+};
+
+typedef struct {
+    uint64_t number; /* 0, or the refusal's number */
+    uint64_t place;  /* the refusal's place */
+    uint64_t second; /* of refusal 6 the second chunk */
+    uint64_t value;
+    uint64_t extent;
+} sumbilak_answer;
+
+typedef struct {
+    uint64_t number, place, second;
+    uint64_t mapped;    /* mapped chunks */
+    uint64_t held;      /* units that named maps hold */
+    uint64_t free;      /* all other units */
+    uint64_t saved;     /* C * P less held */
+    double held_ratio;  /* held / N */
+    double saved_ratio; /* saved / (C * P) */
+} sumbilak_report_answer;
+
+/* Writes the image of a fresh volume: p units in a chunk (2 to 16), c chunks (1 to 256), m chunk maps (c+1 to c+32), n backing units (p to p*m). The
+ * length is exactly SUMBILAK_IMAGE_BYTES(p, c, m). With n at least (c+1)*p a write never finds too little room. Refuses with 3 only. */
+sumbilak_answer sumbilak_format(uint8_t *image, size_t len, uint64_t p, uint64_t c, uint64_t m, uint64_t n);
+
+/* Judges an image and rebuilds its free sets. Writes P, C, M, N, then 72 words with a bit for each free unit, then 5 words with a bit for each free map
+ * (number u is bit u % 64 of word u / 64). Refuses with 1 to 6, and 10 for fewer than 81 words (place 648). */
+sumbilak_answer sumbilak_load(const uint8_t *image, size_t len, uint64_t *out, size_t out_len);
+
+/* Splits `length` bytes of the volume from `offset` at chunk boundaries. value: pieces. Writes for each piece, rising, three little-endian u32: chunk,
+ * offset within it, length. Refuses with 1 to 7, and 10. */
+sumbilak_answer sumbilak_split(const uint8_t *image, size_t len, uint64_t offset, uint64_t length, uint8_t *out, size_t out_len);
+
+/* What a piece within one chunk reads first. value: 0 nothing (a write that covers its chunk), 1 zeros (the chunk is unmapped), 2 the chunk's units in map
+ * order. Refuses with 1 to 7. */
+sumbilak_answer sumbilak_access(const uint8_t *image, size_t len, bool write, uint64_t offset, uint64_t length);
+
+/* Where the held words of a chunk's map stand in the image: one little-endian u64 for each unit, in order. value: first byte, extent: bytes; both 0 for an
+ * unmapped chunk. Refuses with 1 to 7. */
+sumbilak_answer sumbilak_held(const uint8_t *image, size_t len, uint64_t chunk);
+
+/* Plans a write of `size` compressed bytes to a chunk, on the lowest free units and the lowest free map. value: steps, 16 bytes each:
+ *    1 DATA  unit, piece, 0     the caller writes piece `piece` of the payload to that unit
+ *    2 MAP   map, word, value   a word of the chunk map (4294967295: absent)
+ *    3 LINK  chunk, 0, value    the chunk's entry (4294967295: absent)
+ *    4 FENCE 0, 0, 0            everything earlier is durable before anything later starts
+ * Refuses with 1 to 10. */
+sumbilak_answer sumbilak_plan_write(const uint8_t *image, size_t len, uint64_t chunk, uint64_t size, uint8_t *out, size_t out_len);
+
+/* Plans a discard: no step for an unmapped chunk. value: steps. Refuses with 1 to 7, and 10. */
+sumbilak_answer sumbilak_plan_discard(const uint8_t *image, size_t len, uint64_t chunk, uint8_t *out, size_t out_len);
+
+/* Checks a plan from any hand against the image and the request, before any of it is carried out: number 0 exactly when the image is sound, the request
+ * good and the five rules kept. What is proved of power failures is proved of plans that pass here. Refuses with 1 to 8 (8 for a write), and 11. */
+sumbilak_answer sumbilak_check_write(const uint8_t *image, size_t len, uint64_t chunk, uint64_t size, const uint8_t *plan, size_t plan_len);
+sumbilak_answer sumbilak_check_discard(const uint8_t *image, size_t len, uint64_t chunk, const uint8_t *plan, size_t plan_len);
+
+/* Checks the whole plan, then stores the MAP and LINK words of its first n steps in the image and no other byte. DATA steps and the order of FENCEs on the
+ * disk are the caller's. Refuses as the check does, and with 7 for n above the plan's whole steps. */
+sumbilak_answer sumbilak_carry_write(uint8_t *image, size_t len, uint64_t chunk, uint64_t size, const uint8_t *plan, size_t plan_len, uint64_t n);
+sumbilak_answer sumbilak_carry_discard(uint8_t *image, size_t len, uint64_t chunk, const uint8_t *plan, size_t plan_len, uint64_t n);
+
+/* Counts of the volume and two ratios, each one rounded division. Refuses with 1 to 6. */
+sumbilak_report_answer sumbilak_report(const uint8_t *image, size_t len);
+
+/* Whether fewer units are free than a level. value: 1 sounds, 0 silent. The level is a count of units, or a fraction of N from 0 to 1, whose product with
+ * N is rounded once. Refuses with 1 to 6, and a fraction with 12. */
+sumbilak_answer sumbilak_alarm_count(const uint8_t *image, size_t len, uint64_t units);
+sumbilak_answer sumbilak_alarm_fraction(const uint8_t *image, size_t len, double fraction);
+
+#ifdef __cplusplus
+}
+#endif
+
+#endif

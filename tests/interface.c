@@ -1,0 +1,162 @@
+/* Document 01's worked cases through the C interface, and the edges of C: empty slices, struct sizes. Silent where all is right. */
+#include <math.h>
+#include <stdio.h>
+#include <stdlib.h>
+#include <string.h>
+
+#include "sumbilak.h"
+
+_Static_assert(sizeof(sumbilak_answer) == 40, "five u64");
+_Static_assert(sizeof(sumbilak_report_answer) == 72, "seven u64 and two doubles");
+_Static_assert(SUMBILAK_IMAGE_BYTES(16, 256, 288) == SUMBILAK_MAX_IMAGE_BYTES, "the largest image");
+
+enum { P = 4, C = 4, M = 5, N = 20, IMAGE = SUMBILAK_IMAGE_BYTES(P, C, M) };
+
+static int asked, failed;
+
+static void is(const char *what, uint64_t found, uint64_t wanted)
+{
+    asked++;
+    if (found == wanted)
+        return;
+    failed++;
+    printf("%s: %llu, not %llu\n", what, (unsigned long long)found, (unsigned long long)wanted);
+}
+
+/* Plans a write on the image and carries the first `left` steps fewer than all of it out. */
+static uint64_t write_chunk(uint8_t *image, uint64_t chunk, uint64_t size, uint64_t left)
+{
+    uint8_t plan[SUMBILAK_MAX_WRITE_STEPS * SUMBILAK_STEP_BYTES];
+    sumbilak_answer made = sumbilak_plan_write(image, IMAGE, chunk, size, plan, sizeof plan);
+    is("planned", made.number, 0);
+    is("own plan passes", sumbilak_check_write(image, IMAGE, chunk, size, plan, made.value * 16).number, 0);
+    is("carried", sumbilak_carry_write(image, IMAGE, chunk, size, plan, made.value * 16, made.value - left).number, 0);
+    return made.value;
+}
+
+/* The unit words of a chunk, as bytes of a number: units 3, 4 are 0x0304. */
+static uint64_t units(const uint8_t *image, uint64_t chunk)
+{
+    sumbilak_answer held = sumbilak_held(image, IMAGE, chunk);
+    uint64_t all = 0;
+    for (uint64_t i = 0; i < held.extent; i += 8)
+        all = all << 8 | image[held.value + i];
+    return all;
+}
+
+static uint64_t pieces(const uint8_t *image, uint64_t offset, uint64_t length)
+{
+    uint8_t out[C * SUMBILAK_PIECE_BYTES];
+    sumbilak_answer a = sumbilak_split(image, IMAGE, offset, length, out, sizeof out);
+    return a.number ? 1000 + a.number : a.value;
+}
+
+static void worked_cases(void)
+{
+    uint8_t image[IMAGE], other[IMAGE], plan[16] = {4};
+    uint64_t loaded[SUMBILAK_LOAD_WORDS];
+    static const uint8_t trailer[32] = {0x52, 0x4D, 0x41, 0x50, 1, 0, 4, 0, 4, 0, 0, 0, 5, 0, 0, 0, 0x14, 0, 0, 0, 0xC0, 0, 0, 0, 0xA0, 0, 0, 0, 0xE0, 0, 0, 0};
+
+    is("format", sumbilak_format(image, IMAGE, P, C, M, N).number, 0);
+    is("trailer", (uint64_t)memcmp(image + 192, trailer, 32), 0);
+    is("load", sumbilak_load(image, IMAGE, loaded, SUMBILAK_LOAD_WORDS).number, 0);
+    is("P", loaded[0], P);
+    is("C", loaded[1], C);
+    is("M", loaded[2], M);
+    is("N", loaded[3], N);
+    is("free units 0 to 19", loaded[4], 0xFFFFF);
+    is("free maps 0 to 4", loaded[76], 0x1F);
+    is("80 words", sumbilak_load(image, IMAGE, loaded, 80).place, 648);
+
+    is("nine steps", write_chunk(image, 2, 6144, 0), 9);
+    is("chunk 2 on units 0, 1", units(image, 2), 0x0001);
+    write_chunk(image, 0, 3072, 0);
+    is("chunk 0 on unit 2", units(image, 0), 0x02);
+    memcpy(other, image, IMAGE);
+    write_chunk(other, 0, 5120, 2);
+    is("cut before LINK", units(other, 0), 0x02);
+    write_chunk(image, 0, 5120, 0);
+    is("chunk 0 on units 3, 4", units(image, 0), 0x0304);
+    is("load", sumbilak_load(image, IMAGE, loaded, SUMBILAK_LOAD_WORDS).number, 0);
+    is("unit 2 is free", loaded[4], 0xFFFE4);
+    is("map 1 is free", loaded[76], 0x1A);
+
+    is("0.75 is silent", sumbilak_alarm_fraction(image, IMAGE, 0.75).value, 0);
+    is("0.875 sounds", sumbilak_alarm_fraction(image, IMAGE, 0.875).value, 1);
+    is("not a number", sumbilak_alarm_fraction(image, IMAGE, NAN).number, 12);
+    sumbilak_report_answer r = sumbilak_report(image, IMAGE);
+    is("mapped", r.mapped, 2);
+    is("held", r.held, 4);
+    is("free", r.free, 16);
+    is("saved", r.saved, 12);
+    is("held / N", r.held_ratio == 4.0 / 20.0, 1);
+    is("saved / (C * P)", r.saved_ratio == 12.0 / 16.0, 1);
+
+    static const uint64_t sizes[][2] = {{1, 1}, {4096, 1}, {4097, 2}, {16384, 4}, {0, 8}, {16385, 8}};
+    for (size_t i = 0; i < 6; i++) {
+        uint8_t steps[35 * 16];
+        sumbilak_answer a = sumbilak_plan_write(image, IMAGE, 1, sizes[i][0], steps, sizeof steps);
+        is("units of a size", a.number ? a.number : a.value - P - 3, sizes[i][1]);
+    }
+
+    is("20,480 bytes at 4,096", pieces(image, 4096, 20480), 2);
+    is("the whole volume", pieces(image, 0, 65536), 4);
+    is("past the end", pieces(image, 65536, 4096), 1007);
+    is("nothing", pieces(image, 0, 0), 1007);
+    is("chunk 3", sumbilak_held(image, IMAGE, 3).number, 0);
+    is("chunk 4", sumbilak_held(image, IMAGE, 4).number, 7);
+    is("access to an unmapped chunk", sumbilak_access(image, IMAGE, false, 16384, 4096).value, 1);
+    is("access to a mapped chunk", sumbilak_access(image, IMAGE, true, 0, 4096).value, 2);
+    is("a covering write", sumbilak_access(image, IMAGE, true, 0, 16384).value, 0);
+
+    is("discard of an unmapped chunk", sumbilak_plan_discard(image, IMAGE, 1, NULL, 0).value, 0);
+    is("a lone FENCE", sumbilak_check_discard(image, IMAGE, 1, plan, 16).number, 11);
+    is("breaks rule 5", sumbilak_check_discard(image, IMAGE, 1, plan, 16).place, 5);
+    memcpy(other, image, IMAGE);
+    memcpy(other + 24, other + 16, 8); /* chunk 3 names chunk 2's map */
+    sumbilak_answer shared = sumbilak_held(other, IMAGE, 0);
+    is("shared", shared.number, 6);
+    is("by chunk 2", shared.place, 2);
+    is("and chunk 3", shared.second, 3);
+}
+
+static void limits(void)
+{
+    uint8_t *image = malloc(SUMBILAK_MAX_IMAGE_BYTES + 8);
+    if (!image)
+        exit(1);
+    is("256 chunks", sumbilak_format(image, SUMBILAK_IMAGE_BYTES(2, 256, 257), 2, 256, 257, 514).number, 0);
+    is("257 chunks", sumbilak_format(image, SUMBILAK_IMAGE_BYTES(2, 257, 258), 2, 257, 258, 516).number, 3);
+    is("20 units", sumbilak_format(image, IMAGE, P, C, M, 20).number, 0);
+    is("21 units", sumbilak_format(image, IMAGE, P, C, M, 21).number, 3);
+    is("the largest", sumbilak_format(image, SUMBILAK_MAX_IMAGE_BYTES, 16, 256, 288, 4608).number, 0);
+    is("loads", sumbilak_alarm_count(image, SUMBILAK_MAX_IMAGE_BYTES, 4609).value, 1);
+    free(image);
+}
+
+static void empty_slices(void)
+{
+    is("format", sumbilak_format(NULL, 0, P, C, M, N).number, 3);
+    is("load", sumbilak_load(NULL, 0, NULL, 0).number, 1);
+    is("split", sumbilak_split(NULL, 0, 0, 4096, NULL, 0).number, 1);
+    is("access", sumbilak_access(NULL, 0, false, 0, 4096).number, 1);
+    is("held", sumbilak_held(NULL, 0, 0).number, 1);
+    is("plan_write", sumbilak_plan_write(NULL, 0, 0, 1, NULL, 0).number, 1);
+    is("plan_discard", sumbilak_plan_discard(NULL, 0, 0, NULL, 0).number, 1);
+    is("check_write", sumbilak_check_write(NULL, 0, 0, 1, NULL, 0).number, 1);
+    is("check_discard", sumbilak_check_discard(NULL, 0, 0, NULL, 0).number, 1);
+    is("carry_write", sumbilak_carry_write(NULL, 0, 0, 1, NULL, 0, 0).number, 1);
+    is("carry_discard", sumbilak_carry_discard(NULL, 0, 0, NULL, 0, 0).number, 1);
+    is("report", sumbilak_report(NULL, 0).number, 1);
+    is("alarm_count", sumbilak_alarm_count(NULL, 0, 0).number, 1);
+    is("alarm_fraction", sumbilak_alarm_fraction(NULL, 0, 0.5).number, 1);
+}
+
+int main(void)
+{
+    worked_cases();
+    limits();
+    empty_slices();
+    printf("C interface: %d of %d as document 01 has them\n", asked - failed, asked);
+    return failed != 0;
+}
