@@ -1,4 +1,6 @@
+use mathlib.Core.Path.{ap, sym, _∙_}
 use borrow.Author.Needs.{needs}
+use Rattle.sumbilak.specs.Answers.{accessAnswers}
 use Rattle.sumbilak.proofs.answers.access.Statement.{statement}
 use Rattle.sumbilak.proofs.answers.access.Tie as tie
 
@@ -27,16 +29,16 @@ refused-requires : tie.Need-refused-requires
 refused-requires c κs = search needs
 
 returns : tie.Need-returns
-returns c = cc
+returns c = c .given .ensures ∙ ap accessAnswers (sym (c .before .enum-told .given .1))
 
 returns-2 : tie.Need-returns-2
-returns-2 c = cc
+returns-2 c = c .given2 .ensures ∙ ap accessAnswers (sym (c .before .enum-told2 .given .1))
 
 returns-3 : tie.Need-returns-3
-returns-3 c = cc
+returns-3 c = c .given3 .ensures ∙ ap accessAnswers (sym (c .before .enum-told3 .given .1))
 
 returns-4 : tie.Need-returns-4
-returns-4 c = cc
+returns-4 c = c .refused .ensures ∙ ap accessAnswers (sym (c .before .before .x .given .1))
 
 pub access-spec : {M : Type 1} → statement M
 access-spec =

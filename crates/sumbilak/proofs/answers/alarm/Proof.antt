@@ -1,4 +1,6 @@
+use mathlib.Core.Path.{ap, sym, _∙_}
 use borrow.Author.Needs.{needs}
+use Rattle.sumbilak.specs.Answers.{alarmAnswers}
 use Rattle.sumbilak.proofs.answers.alarm.Statement.{statement}
 use Rattle.sumbilak.proofs.answers.alarm.Tie as tie
 
@@ -21,13 +23,13 @@ refused-requires : tie.Need-refused-requires
 refused-requires c κs = search needs
 
 returns : tie.Need-returns
-returns c = cc
+returns c = c .given .ensures ∙ ap alarmAnswers (sym (c .before .enum-told .given .1))
 
 returns-2 : tie.Need-returns-2
-returns-2 c = cc
+returns-2 c = c .given2 .ensures ∙ ap alarmAnswers (sym (c .before .enum-told2 .given .1))
 
 returns-3 : tie.Need-returns-3
-returns-3 c = cc
+returns-3 c = c .refused .ensures ∙ ap alarmAnswers (sym (c .before .before .x .given .1))
 
 pub alarm-spec : {M : Type 1} → statement M
 alarm-spec =

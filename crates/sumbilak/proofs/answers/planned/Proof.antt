@@ -1,4 +1,6 @@
+use mathlib.Core.Path.{ap, sym, _∙_}
 use borrow.Author.Needs.{needs}
+use Rattle.sumbilak.specs.Answers.{plannedAnswer}
 use Rattle.sumbilak.proofs.answers.planned.Statement.{statement}
 use Rattle.sumbilak.proofs.answers.planned.Tie as tie
 
@@ -18,10 +20,10 @@ refused-requires : tie.Need-refused-requires
 refused-requires c κs = search needs
 
 returns : tie.Need-returns
-returns c = cc
+returns c = c .given .ensures ∙ ap plannedAnswer (sym (c .before .before .x .given .1))
 
 returns-2 : tie.Need-returns-2
-returns-2 c = cc
+returns-2 c = c .refused .ensures ∙ ap plannedAnswer (sym (c .before .before .x2 .given .1))
 
 pub planned-spec : {M : Type 1} → statement M
 planned-spec =

@@ -21,7 +21,7 @@ cast-second : tie.Need-cast-second
 cast-second c = search needs
 
 returns : tie.Need-returns
-returns c = cc
+returns c = rw (c .before .before .number .ensures, c .before .place .ensures, c .second-place .ensures)
 
 pub refused-spec : {M : Type 1} → statement M
 refused-spec =

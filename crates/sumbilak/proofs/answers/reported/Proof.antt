@@ -1,4 +1,7 @@
+use mathlib.Core.Path.{ap}
 use borrow.Author.Needs.{needs}
+use Rattle.sumbilak.specs.declared.Answer.{Answer}
+use Rattle.sumbilak.specs.Answers.{reportNumbers}
 use Rattle.sumbilak.proofs.answers.reported.Statement.{statement}
 use Rattle.sumbilak.proofs.answers.reported.Tie as tie
 
@@ -18,7 +21,7 @@ cast-t8 : tie.Need-cast-t8
 cast-t8 c = search needs
 
 returns : tie.Need-returns
-returns c = cc
+returns c = ap (λ (a : Answer). reportNumbers a (c .before .before .before .before .before .before .args .x .report)) (c .before .before .before .before .before .verdict .ensures)
 
 pub reported-spec : {M : Type 1} → statement M
 reported-spec = tie.close (tie.spec verdict-requires cast-t5 cast-t6 cast-t7 cast-t8 returns)

@@ -1,4 +1,6 @@
+use mathlib.Core.Path.{ap, sym, _∙_}
 use borrow.Author.Needs.{needs}
+use Rattle.sumbilak.specs.Answers.{verdictAnswer}
 use Rattle.sumbilak.proofs.answers.verdict.Statement.{statement}
 use Rattle.sumbilak.proofs.answers.verdict.Tie as tie
 
@@ -15,10 +17,10 @@ refused-requires : tie.Need-refused-requires
 refused-requires c κs = search needs
 
 returns : tie.Need-returns
-returns c = cc
+returns c = c .given .ensures ∙ ap verdictAnswer (sym (c .before .enum-told .given .1))
 
 returns-2 : tie.Need-returns-2
-returns-2 c = cc
+returns-2 c = c .refused .ensures ∙ ap verdictAnswer (sym (c .before .before .x .given .1))
 
 pub verdict-spec : {M : Type 1} → statement M
 verdict-spec =
