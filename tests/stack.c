@@ -1,0 +1,51 @@
+/* How much stack the library uses: every call on the largest image, on a stack that was painted before. The proofs do not bound it; this measures it. */
+#define _XOPEN_SOURCE 700
+#include <stdio.h>
+#include <string.h>
+#include <ucontext.h>
+
+#include "sumbilak.h"
+
+enum { STACK = 1 << 16, PAINT = 0xA5, ALLOWED = 8192, P = 16, C = 256, M = 288, N = 4608, IMAGE = SUMBILAK_MAX_IMAGE_BYTES };
+
+static uint8_t stack[STACK], image[IMAGE], clash[IMAGE], plan[SUMBILAK_MAX_WRITE_STEPS * SUMBILAK_STEP_BYTES], out[C * SUMBILAK_PIECE_BYTES];
+static uint64_t words[SUMBILAK_LOAD_WORDS];
+static ucontext_t caller, callee;
+
+static void every_call(void)
+{
+    sumbilak_format(image, IMAGE, P, C, M, N);
+    sumbilak_answer made = sumbilak_plan_write(image, IMAGE, 0, P * SUMBILAK_UNIT_BYTES, plan, sizeof plan);
+    sumbilak_check_write(image, IMAGE, 0, P * SUMBILAK_UNIT_BYTES, plan, made.value * SUMBILAK_STEP_BYTES);
+    sumbilak_carry_write(image, IMAGE, 0, P * SUMBILAK_UNIT_BYTES, plan, made.value * SUMBILAK_STEP_BYTES, made.value);
+    memcpy(clash, image, IMAGE);
+    memcpy(clash + 8 * 255, clash, 8); /* the last chunk names the first one's map */
+    sumbilak_load(clash, IMAGE, words, SUMBILAK_LOAD_WORDS);
+    sumbilak_load(image, IMAGE, words, SUMBILAK_LOAD_WORDS);
+    sumbilak_split(image, IMAGE, 0, (uint64_t)C * P * SUMBILAK_UNIT_BYTES, out, sizeof out);
+    sumbilak_access(image, IMAGE, true, 0, SUMBILAK_UNIT_BYTES);
+    sumbilak_held(image, IMAGE, 0);
+    sumbilak_report(image, IMAGE);
+    sumbilak_alarm_count(image, IMAGE, 1);
+    sumbilak_alarm_fraction(image, IMAGE, 0.5);
+    made = sumbilak_plan_discard(image, IMAGE, 0, plan, sizeof plan);
+    sumbilak_check_discard(image, IMAGE, 0, plan, made.value * SUMBILAK_STEP_BYTES);
+    sumbilak_carry_discard(image, IMAGE, 0, plan, made.value * SUMBILAK_STEP_BYTES, made.value);
+}
+
+int main(void)
+{
+    memset(stack, PAINT, STACK);
+    getcontext(&callee);
+    callee.uc_stack.ss_sp = stack;
+    callee.uc_stack.ss_size = STACK;
+    callee.uc_link = &caller;
+    makecontext(&callee, every_call, 0);
+    swapcontext(&caller, &callee);
+
+    size_t untouched = 0;
+    while (untouched < STACK && stack[untouched] == PAINT)
+        untouched++;
+    printf("stack: %d bytes at the most, %d allowed\n", (int)(STACK - untouched), ALLOWED);
+    return STACK - untouched > ALLOWED;
+}
