@@ -7,9 +7,10 @@ use mathlib.Core.Bool.{true, false}
 use mathlib.Core.List.{List}
 use Rattle.layout.specs.declared.Shape.{Shape}
 use Rattle.layout.specs.Layout.{shapeOf, linkOf}
+use Rattle.image.specs.Soundness.{unitsOf}
 use Rattle.search.proofs.Bools.{is-true, either}
 use Rattle.image.proofs.Order.{Orderly, Apart}
-use Rattle.image.proofs.Fate.{Renewed, Fate, orderly-after, kept}
+use Rattle.image.proofs.Fate.{Renewed, Fate, same-units, orderly-after, kept}
 use Rattle.steps.specs.declared.Step.{Step}
 use Rattle.steps.specs.Steps.{stepsOf}
 use Rattle.durable.specs.Events.{Volume, Event, settle, holds}
@@ -30,8 +31,11 @@ module _ {A : Type 0} (v : Volume A) (e : Event A) (d : Orderly (shapeOf (v .ima
   t = settle e 0 xs v
 
   module _ (k : Careful g s xs) where
-    still : (i : ℕ) → i < g .c → linkLandsOn e i 0 xs ≡ false → linkOf (t .image) i ≡ linkOf s i
+    pub still : (i : ℕ) → i < g .c → linkLandsOn e i 0 xs ≡ false → linkOf (t .image) i ≡ linkOf s i
     still i b h = keep-link e g i b 0 xs v (d .on) (k .range) h
+
+    pub still-units : (i : ℕ) → i < g .c → linkLandsOn e i 0 xs ≡ false → unitsOf (t .image) i ≡ unitsOf s i
+    still-units i b h = same-units g s (t .image) (d .on) (left-on v e g xs (d .on) k) i (same-chunk v e g xs (d .on) k i b (still i b h))
 
     pub still-holds : (i : ℕ) → i < g .c → linkLandsOn e i 0 xs ≡ false → holds t i ≡ holds v i
     still-holds i b h = same-holds v e g xs (d .on) k i b (still i b h)

@@ -6,7 +6,7 @@ use mathlib.Core.Bool.{Bool, true, false, cond}
 use mathlib.Core.List.{List}
 use native.Mathlib.Omega.{arith}
 use lib.ListN.{length, drop}
-use borrow.Author.Tests.{ltb-true}
+use borrow.Author.Tests.{eqb-true, ltb-true}
 use Rattle.layout.specs.declared.Shape.{Shape}
 use Rattle.layout.specs.Layout.{shapeOf, trailerStart, trailerOf}
 use Rattle.search.proofs.Bools.{contradict, either, cond-true, cond-false}
@@ -24,7 +24,7 @@ use Rattle.checker.proofs.Accepting.{Passed, accepted-of}
 use Rattle.checker.proofs.Places.{at-below, step-there}
 use Rattle.checker.proofs.Wording.{rule1-told}
 use Rattle.carry.specs.Carry.{carryAnswer}
-use Rattle.carry.proofs.AnswerLaws.{answer-accepted}
+use Rattle.carry.proofs.AnswerLaws.{answer-accepted, accepted-answer}
 use Rattle.durable.specs.Events.{Volume, Event, Outcome, refused, finished, cut, accepted, tried, lands, complete, settle, linkLands, after, holds, outcome, entry, entered}
 use Rattle.checker.proofs.StepLaws.{InRange, each-in-range}
 use Rattle.durable.proofs.Settle.{settle-trailer}
@@ -99,13 +99,24 @@ module _ {A : Type 0} (v : Volume A) (e : Event A) where
   abbrev pub ended : Outcome
   ended = cond (complete e) finished (cut (linkLands e 0 (stepsOf (e .plan))))
 
-  pub outcome-tried : tried (v .image) e ≡ true → outcome (v .image) e ≡ ended
+  outcome-tried : tried (v .image) e ≡ true → outcome (v .image) e ≡ ended
   unfolding outcome
   outcome-tried h = cond-true (tried (v .image) e) ended refused h
 
   outcome-refused : tried (v .image) e ≡ false → outcome (v .image) e ≡ refused
   unfolding outcome
   outcome-refused h = cond-false (tried (v .image) e) ended refused h
+
+  -- an accepted plan with n all its steps is finished
+  module _ (a : checked (v .image) (e .request) (e .plan) ≡ Accepted) (c : complete e ≡ true) where
+    pub whole-tried : tried (v .image) e ≡ true
+    unfolding tried
+    whole-tried =
+        let n = eqb-true (e .count) (wholeSteps (e .plan)) c in
+        ap accepted (accepted-answer (v .image) (e .request) (e .plan) (e .count) a (omega arith))
+
+    pub whole-finished : outcome (v .image) e ≡ finished
+    whole-finished = outcome-tried whole-tried ∙ cond-true (complete e) finished (cut (linkLands e 0 (stepsOf (e .plan)))) c
 
   pub was-tried : (o : Outcome) → outcome (v .image) e ≡ o → o ≢ refused → tried (v .image) e ≡ true
   unfolding outcome
@@ -127,7 +138,7 @@ module _ {A : Type 0} (g : Shape) (v : Volume A) (e : Event A) (d : Intact g (v 
   abbrev t : Volume A
   t = settle e 0 xs v
 
-  here : Orderly (shapeOf s) s
+  pub here : Orderly (shapeOf (v .image)) (v .image)
   here = subst (λ (h : Shape). Orderly h s) (sym (d .order .on .shape)) (d .order)
 
   -- ---- a plan that is tried
@@ -143,7 +154,7 @@ module _ {A : Type 0} (g : Shape) (v : Volume A) (e : Event A) (d : Intact g (v 
     pub chunk-in : chunkOf (e .request) < g .c
     chunk-in = subst (λ (k : Shape). chunkOf (e .request) < k .c) (d .order .on .shape) (ltb-true (chunkOf (e .request)) (shapeOf s .c) (plan .chunk))
 
-    settled : Settled v e here (e .request)
+    pub settled : Settled v e here (e .request)
     settled = settled-any v e here (e .request) plan
 
     tried-intact : Intact g (t .image)

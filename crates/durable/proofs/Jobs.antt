@@ -11,7 +11,7 @@ use borrow.Author.Tests.{eq-eqb}
 use Rattle.layout.specs.declared.Shape.{Shape}
 use Rattle.search.specs.Search.{below, member}
 use Rattle.layout.specs.Layout.{X, shapeOf, linkOf}
-use Rattle.image.specs.Soundness.{mapped}
+use Rattle.image.specs.Soundness.{mapped, unitsOf}
 use Rattle.search.proofs.Bools.{not-of-true}
 use Rattle.search.proofs.Mapping.{member-map-from}
 use Rattle.image.proofs.Chunks.{units-unmapped}
@@ -42,6 +42,11 @@ module _ {A : Type 0} {v : Volume A} {e : Event A} {xs : List Step} where
   given (puts k m unit payload h z q) = map payload (below k)
   given (clears h) = []
 
+  -- and the units
+  abbrev pub dealt : {c : ℕ} → Job v e xs c → List ℕ
+  dealt (puts k m unit payload h z q) = map unit (below k)
+  dealt (clears h) = []
+
   -- two jobs share neither map nor unit
   abbrev pub Differ : {c i : ℕ} → Job v e xs c → Job v e xs i → Type 0
   Differ (puts k m unit payload h z q) (puts k′ m′ unit′ payload′ h′ z′ q′) = (m ≢ m′) × ((i j : ℕ) → i < k → j < k′ → unit i ≢ unit′ j)
@@ -70,9 +75,13 @@ module _ {A : Type 0} (v : Volume A) (e : Event A) (d : Orderly (shapeOf (v .ima
       fate (puts n m unit payload h z q) = renewed (written v e xs c n m unit (d .on) (k .range) h b z l)
       fate (clears h) = emptied (cleared h)
 
+      pub job-units : (a : Job v e xs c) → unitsOf (t .image) c ≡ dealt a
+      job-units (puts n m unit payload h z q) = units-now v e xs c n m unit (d .on) (k .range) h b z l
+      job-units (clears h) = units-unmapped (t .image) c (cleared h)
+
       pub job-holds : (a : Job v e xs c) → holds t c ≡ given a
       job-holds (puts n m unit payload h z q) = written-holds v e xs c n m unit (d .on) (k .range) h b z l payload q
-      job-holds (clears h) = holds-is t c ∙ ap (map (t .content)) (units-unmapped (t .image) c (cleared h))
+      job-holds (clears h) = holds-is t c ∙ ap (map (t .content)) (job-units (clears h))
 
     apart : (i j : ℕ) (bi : i < g .c) (bj : j < g .c) → linkLandsOn e i 0 xs ≡ true → linkLandsOn e j 0 xs ≡ true
         → (a : Job v e xs i) (b : Job v e xs j) → Differ a b → Apart (t .image) i j

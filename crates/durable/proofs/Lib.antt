@@ -8,5 +8,6 @@ pub mod Jobs
 pub mod Requests
 pub mod Effect
 pub mod Carrying
+pub mod Back
 pub mod History
 pub mod Theorems

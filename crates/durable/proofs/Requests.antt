@@ -2,7 +2,7 @@
 use Prim.Native.Nat.{ℕ, _<_, _≤_}
 use native.Mathlib.Omega.{arith}
 use mathlib.Core.Path.{_≡_, refl, sym, ap, _∙_, subst}
-use mathlib.Core.Logic.{_⊎_, inl, inr}
+use mathlib.Core.Logic.{_⊎_, inl, inr, _≢_}
 use mathlib.Core.Bool.{true, false, cond}
 use mathlib.Core.List.{List, [], map}
 use lib.ListN.{length}
@@ -10,10 +10,10 @@ use lib.Dec.{eqb}
 use borrow.Author.Tests.{eqb-true, eqb-false, ltb-true}
 use Rattle.layout.specs.declared.Shape.{Shape}
 use Rattle.search.specs.Search.{from}
-use Rattle.layout.specs.Layout.{X, mapWords, shapeOf}
-use Rattle.image.specs.Soundness.{mapped}
+use Rattle.layout.specs.Layout.{X, mapWords, shapeOf, linkOf}
+use Rattle.image.specs.Soundness.{mapped, unitsOf}
 use Rattle.search.proofs.Bools.{contradict, either, cond-true, cond-false}
-use Rattle.image.proofs.Chunks.{units-unmapped}
+use Rattle.image.proofs.Chunks.{units-unmapped, unmapped-absent}
 use Rattle.image.proofs.Order.{Orderly}
 use Rattle.steps.specs.declared.Step.{Step}
 use Rattle.steps.specs.declared.Request.{Request}
@@ -26,12 +26,13 @@ use Rattle.steps.proofs.Codec.{each-map}
 use Rattle.checker.proofs.StepLaws.{InRange, Links, OnLink, on-links, each-in-range}
 use Rattle.checker.proofs.Facts.{Writes, writes, Discards, discards, discards-nothing}
 use Rattle.durable.specs.Events.{Volume, Event, lands, complete, settle, linkLands, holds, newPieces}
+use Rattle.durable.specs.LoadsBack.{newLink, newUnits}
 use Rattle.durable.proofs.Settle.{Solid, settle-nil, set-content}
-use Rattle.durable.proofs.Linking.{linkLandsOn, lands-own, lands-other}
+use Rattle.durable.proofs.Linking.{linkLandsOn, lands-own, lands-other, set-link}
 use Rattle.durable.proofs.Fences.{solid, complete-link, all-landed}
 use Rattle.durable.proofs.Careful.{Careful, careful-write, careful-discard, holds-is}
-use Rattle.durable.proofs.Core.{still-holds}
-use Rattle.durable.proofs.Jobs.{Job, puts, clears, given, job-holds, jobs-orderly}
+use Rattle.durable.proofs.Core.{still, still-units, still-holds}
+use Rattle.durable.proofs.Jobs.{Job, puts, clears, given, dealt, job-units, job-holds, jobs-orderly}
 use Rattle.layout.proofs.Limits.{fitting-limits}
 
 module _ {A : Type 0} (v : Volume A) (e : Event A) (d : Orderly (shapeOf (v .image)) (v .image)) where
@@ -54,38 +55,52 @@ module _ {A : Type 0} (v : Volume A) (e : Event A) (d : Orderly (shapeOf (v .ima
     pub new : (linkLands e 0 (stepsOf (e .plan)) ≡ true) ⊎ (complete e ≡ true) → (i : ℕ) → i < shapeOf (v .image) .c
         → holds (settle e 0 (stepsOf (e .plan)) v) i ≡ cond (eqb i (chunkOf r)) (newPieces r (e .payload)) (holds v i)
     pub whole : complete e ≡ true → (i : ℕ) → i < length (stepsOf (e .plan)) → lands e i ≡ true
+    -- the entry and the units of the request's chunk, and of every other
+    pub own : complete e ≡ true
+        → (linkOf (settle e 0 (stepsOf (e .plan)) v .image) (chunkOf r) ≡ newLink r (stepsOf (e .plan)))
+        × (unitsOf (settle e 0 (stepsOf (e .plan)) v .image) (chunkOf r) ≡ newUnits r (stepsOf (e .plan)))
+    pub others : (i : ℕ) → i < shapeOf (v .image) .c → i ≢ chunkOf r
+        → (linkOf (settle e 0 (stepsOf (e .plan)) v .image) i ≡ linkOf (v .image) i)
+        × (unitsOf (settle e 0 (stepsOf (e .plan)) v .image) i ≡ unitsOf (v .image) i)
 
   -- ---- a careful plan with LINKs, all of chunk c
 
-  module _ (r : Request) (w : ℕ) (b : chunkOf r < g .c) (k : Careful g s xs) (l : Each (OnLink (chunkOf r) w) xs) (a : isNone (links xs) ≡ false)
-      (ends : endsIn false xs ≡ true) (job : linkLands e 0 xs ≡ true → Job v e xs (chunkOf r)) (right : (p : linkLands e 0 xs ≡ true) → given (job p) ≡ newPieces r (e .payload)) where
+  module _ (r : Request) (b : chunkOf r < g .c) (k : Careful g s xs) (l : Each (OnLink (chunkOf r) (newLink r xs)) xs) (a : isNone (links xs) ≡ false)
+      (ends : endsIn false xs ≡ true) (job : linkLands e 0 xs ≡ true → Job v e xs (chunkOf r))
+      (right : (p : linkLands e 0 xs ≡ true) → (given (job p) ≡ newPieces r (e .payload)) × (dealt (job p) ≡ newUnits r xs)) where
     abbrev c : ℕ
     c = chunkOf r
+
+    abbrev w : ℕ
+    w = newLink r xs
+
+    lands-here : linkLandsOn e c 0 xs ≡ linkLands e 0 xs
+    lands-here = lands-own e c w 0 xs l
+
+    lands-elsewhere : (i : ℕ) → i ≢ c → linkLandsOn e i 0 xs ≡ false
+    lands-elsewhere i n = lands-other e c w i 0 xs l n
 
     only : (i : ℕ) → linkLandsOn e i 0 xs ≡ true → i ≡ c
     only i h = go (either (eqb i c))
       where
         go : (eqb i c ≡ true) ⊎ (eqb i c ≡ false) → i ≡ c
         go (inl q) = eqb-true i c q
-        go (inr q) = contradict h (lands-other e c w i 0 xs l (eqb-false i c q))
-
-    own : linkLandsOn e c 0 xs ≡ linkLands e 0 xs
-    own = lands-own e c w 0 xs l
+        go (inr q) = contradict h (lands-elsewhere i (eqb-false i c q))
 
     jobs : (i : ℕ) → linkLandsOn e i 0 xs ≡ true → Job v e xs i
-    jobs i p = subst (Job v e xs) (sym (only i p)) (job (sym own ∙ ap (λ (j : ℕ). linkLandsOn e j 0 xs) (sym (only i p)) ∙ p))
+    jobs i p = subst (Job v e xs) (sym (only i p)) (job (sym lands-here ∙ ap (λ (j : ℕ). linkLandsOn e j 0 xs) (sym (only i p)) ∙ p))
 
     still-quiet : (i : ℕ) → linkLands e 0 xs ≡ false → (eqb i c ≡ true) ⊎ (eqb i c ≡ false) → linkLandsOn e i 0 xs ≡ false
-    still-quiet i p (inl z) = ap (λ (j : ℕ). linkLandsOn e j 0 xs) (eqb-true i c z) ∙ own ∙ p
-    still-quiet i p (inr z) = lands-other e c w i 0 xs l (eqb-false i c z)
+    still-quiet i p (inl z) = ap (λ (j : ℕ). linkLandsOn e j 0 xs) (eqb-true i c z) ∙ lands-here ∙ p
+    still-quiet i p (inr z) = lands-elsewhere i (eqb-false i c z)
 
     moved : linkLands e 0 xs ≡ true → (i : ℕ) → i < g .c → (eqb i c ≡ true) ⊎ (eqb i c ≡ false)
         → holds t i ≡ cond (eqb i c) (newPieces r (e .payload)) (holds v i)
     moved p i q (inl z) =
-        ap (holds t) (eqb-true i c z) ∙ job-holds v e d k c b (own ∙ p) (job p) ∙ right p
+        ap (holds t) (eqb-true i c z) ∙ job-holds v e d k c b (lands-here ∙ p) (job p) ∙ right p .0
         ∙ sym (cond-true (eqb i c) (newPieces r (e .payload)) (holds v i) z)
     moved p i q (inr z) =
-        still-holds v e d k i q (lands-other e c w i 0 xs l (eqb-false i c z)) ∙ sym (cond-false (eqb i c) (newPieces r (e .payload)) (holds v i) z)
+        still-holds v e d k i q (lands-elsewhere i (eqb-false i c z)) ∙ sym (cond-false (eqb i c) (newPieces r (e .payload)) (holds v i) z)
 
     -- "finished, and all have landed": by the last FENCE
     all : complete e ≡ true → (i : ℕ) → i < length xs → lands e i ≡ true
@@ -101,23 +116,28 @@ module _ {A : Type 0} (v : Volume A) (e : Event A) (d : Orderly (shapeOf (v .ima
       old = λ p z i q. still-holds v e d k i q (still-quiet i p (either (eqb i c)));
       new = λ p i q. moved (some p) i q (either (eqb i c));
       whole = all;
+      own = λ p. let q : linkLands e 0 xs ≡ true = some (inr p) in (
+        set-link e g c b w 0 xs v (d .on) (k .range) (each-map (OnLink c w) (Links c w) xs (on-links c w) l) (lands-here ∙ q),
+        job-units v e d k c b (lands-here ∙ q) (job q) ∙ right q .1,
+      );
+      others = λ i q n. (still v e d k i q (lands-elsewhere i n), still-units v e d k i q (lands-elsewhere i n));
     }
 
   -- ---- the three requests
 
   settled-write : (c size : ℕ) → Each (InRange g) xs → c < g .c → Writes s c size xs → Settled (Write c size)
   settled-write c size r b h =
-      settled (Write c size) (planMap xs) b (careful-write s c size xs r h) (h .on-link)
+      settled (Write c size) b (careful-write s c size xs r h) (h .on-link)
       (h .guarded .a-link) (h .guarded .last)
       (λ p. let z : Solid e 0 xs = solid e xs refl (h .guarded) p in
       puts (unitsFor size) (planMap xs) (λ j. unitOf j xs) (e .payload) (h .deal) z (λ j q. set-content e j 0 xs v (h .units-differ) (h .has-piece j q) z))
-      (λ p. refl)
+      (λ p. (refl, refl))
 
   settled-discard : (c : ℕ) → Each (InRange g) xs → c < g .c → Discards c xs → Settled (Discard c)
   unfolding from
   settled-discard c r b h =
-      settled (Discard c) X b (careful-discard s c xs r h) (h .on-link)
-      (h .a-link) (h .last) (λ p. clears (each-map (OnLink c X) (Links c X) xs (on-links c X) (h .on-link))) (λ p. refl)
+      settled (Discard c) b (careful-discard s c xs r h) (h .on-link)
+      (h .a-link) (h .last) (λ p. clears (each-map (OnLink c X) (Links c X) xs (on-links c X) (h .on-link))) (λ p. (refl, refl))
 
   settled-nothing : (c : ℕ) → mapped s c ≡ false → xs ≡ [] → Settled (Discard c)
   unfolding from
@@ -126,6 +146,8 @@ module _ {A : Type 0} (v : Volume A) (e : Event A) (d : Orderly (shapeOf (v .ima
     old = λ p q i b. ap (λ (w : Volume A). holds w i) same;
     new = λ p i b. ap (λ (w : Volume A). holds w i) same ∙ go i (either (eqb i c));
     whole = λ q i b. absurd (let z = ap length n in omega arith);
+    own = λ q. (ap (λ (w : Volume A). linkOf (w .image) c) same ∙ unmapped-absent s c m, ap (λ (w : Volume A). unitsOf (w .image) c) same ∙ units-unmapped s c m);
+    others = λ i b q. (ap (λ (w : Volume A). linkOf (w .image) i) same, ap (λ (w : Volume A). unitsOf (w .image) i) same);
   }
     where
       same : t ≡ v

@@ -1,32 +1,40 @@
--- The theorems of this crate that a reader wants: demand 3, and that events which finish exist. `kept-from-sound`, the statement from any sound volume,
--- stands in History.antt.
-use mathlib.Core.Path.{_≡_, refl, ap, _∙_}
+-- The theorems of this crate that a reader wants: demand 3, that events which finish exist, and that what is written loads back. `kept-from-sound`, the
+-- statement from any sound volume, stands in History.antt.
+use mathlib.Core.Path.{_≡_, refl, sym, ap, ap₂, _∙_, subst}
 use mathlib.Core.Bool.{true}
 use borrow.Author.Tests.{eq-eqb}
-use Prim.Native.Nat.{ℕ}
+use Prim.Native.Nat.{ℕ, _≤_}
+use lib.ListN.{length}
 use native.Mathlib.Omega.{arith}
 use mathlib.Core.List.{List, [], map}
-use Rattle.image.specs.Soundness.{unitsOf}
+use Rattle.search.specs.Search.{from, firstOr}
+use Rattle.image.specs.Soundness.{unitsOf, Sound}
+use Rattle.image.specs.Free.{freeUnits, freeMaps}
 use Rattle.layout.specs.declared.Shape.{Shape}
-use Rattle.layout.specs.Layout.{fresh}
+use Rattle.layout.specs.Layout.{X, fresh}
 use Rattle.layout.specs.Format.{formatImage}
 use Rattle.layout.proofs.Formatting.{formatted}
 use Rattle.layout.proofs.Limits.{limits}
 use Rattle.image.proofs.Fresh.{shape-fresh, units-fresh}
 use Rattle.image.proofs.Theorems.{format-is-sound}
 use Rattle.image.proofs.Wording.{sound-shape, sound-tested}
-use Rattle.search.proofs.Bools.{cond-true}
-use Rattle.steps.specs.Steps.{wholeSteps, stepsOf, encodeAll}
+use Rattle.steps.specs.declared.Request.{Request}
+use Rattle.steps.specs.declared.Request.the-variants.{Write, Discard}
+use Rattle.steps.specs.Steps.{wholeSteps, stepsOf, chunkOf, needOf, encodeAll}
+use Rattle.steps.proofs.Codec.{whole-encoded}
 use Rattle.checker.specs.declared.Checked.the-variants.{Accepted}
-use Rattle.checker.specs.Rules.{checked, goodChunk, goodSize}
-use Rattle.carry.proofs.AnswerLaws.{accepted-answer}
+use Rattle.checker.specs.Rules.{checked, goodChunk, goodSize, planMap}
+use Rattle.carry.specs.Carry.{carryImage}
 use Rattle.planner.specs.Planner.{planOf}
-use Rattle.planner.proofs.Accepted.{planned-accepted}
-use Rattle.durable.specs.Events.{accepted, tried, outcome, finished, cut, complete, linkLands, holds}
+use Rattle.planner.proofs.Accepted.{planned-accepted, plan-map, plan-pieces, plan-read}
+use Rattle.planner.proofs.Theorems.{answered, written-is-plan}
+use Rattle.durable.specs.Events.{finished, holds}
 use Rattle.durable.specs.Demand.{Demand}
 use Rattle.durable.specs.Own.{ownEvent, OwnDelivers}
+use Rattle.durable.specs.LoadsBack.{LoadsBack, newUnits, PlansLoadBack, ownLink, ownUnits, OwnLoadsBack, WrittenLoadsBack}
 use Rattle.durable.proofs.Careful.{holds-is}
-use Rattle.durable.proofs.Effect.{sound-intact, outcome-tried, finished-tried}
+use Rattle.durable.proofs.Effect.{sound-intact, whole-finished, finished-tried}
+use Rattle.durable.proofs.Back.{loads-back}
 use Rattle.durable.proofs.History.{kept-from-sound, own-holds, entered-own}
 
 -- Demand 3: the instance of `kept-from-sound` on a fresh volume, whose chunks hold nothing.
@@ -41,17 +49,53 @@ demand A g buffer content es w =
     ∙ ap (λ (s : List ℕ). map content (unitsOf s i)) (f .1)
     ∙ ap (map content) (units-fresh g k i (omega arith)))
 
--- The planner's plans finish and deliver.
+-- ---- the planner's own plans
+
+own-accepted :
+    (g : Shape) (s : List ℕ) (r : Request) → Sound g s → goodChunk g r ≡ true → goodSize g r ≡ true → needOf r ≤ length (freeUnits s)
+    → checked s r (encodeAll (planOf s r)) ≡ Accepted
+own-accepted g s r z c b h =
+    let same = sound-shape g s z in
+    planned-accepted s r (sound-tested g s z) (ap (λ (q : Shape). goodChunk q r) same ∙ c) (ap (λ (q : Shape). goodSize q r) same ∙ b) h
+
+-- They finish and deliver.
 pub own-delivers : OwnDelivers
-unfolding tried
 own-delivers A g v r payload z c b h =
     let s = v .image in
     let e = ownEvent v r payload in
     let plan = encodeAll (planOf s r) in
-    let same = sound-shape g s z in
-    let check : checked s r plan ≡ Accepted =
-    planned-accepted s r (sound-tested g s z) (ap (λ (q : Shape). goodChunk q r) same ∙ c) (ap (λ (q : Shape). goodSize q r) same ∙ b) h in
-    let t : tried s e ≡ true = ap accepted (accepted-answer s r plan (wholeSteps plan) check (omega arith)) in
-    let f : outcome s e ≡ finished =
-    outcome-tried v e t ∙ cond-true (complete e) finished (cut (linkLands e 0 (stepsOf plan))) (eq-eqb (wholeSteps plan) (wholeSteps plan) refl) in
+    let f = whole-finished v e (own-accepted g s r z c b h) (eq-eqb (wholeSteps plan) (wholeSteps plan) refl) in
     (f, own-holds g v e (sound-intact g s z) finished f finished-tried ∙ entered-own (holds v) e finished refl)
+
+-- ---- "what is written loads back as what was meant"
+
+-- An accepted plan from any hand, carried out whole, leaves its chunk on the plan's map and units, every other as it was, and the chunk's old units
+-- and map free.
+pub plans-load-back : PlansLoadBack
+plans-load-back = loads-back
+
+-- The planner's own: the lowest free map and the lowest free units of the image, or an unmapped chunk.
+pub own-loads-back : OwnLoadsBack
+unfolding from
+own-loads-back g s (Write i size) z c b h =
+    let same = sound-shape g s z in
+    let t = sound-tested g s z in
+    let gc = ap (λ (q : Shape). goodChunk q (Write i size)) same ∙ c in
+    let gs = ap (λ (q : Shape). goodSize q (Write i size)) same ∙ b in
+    let plan = encodeAll (planOf s (Write i size)) in
+    let read = plan-read s i size t gc gs h in
+    let left = carryImage s (Write i size) plan (wholeSteps plan) in
+    subst (λ (us : List ℕ). LoadsBack g s i (firstOr X (freeMaps s)) us left) (ap (newUnits (Write i size)) read ∙ plan-pieces s i size t gc gs h)
+    (subst (λ (l : ℕ). LoadsBack g s i l (newUnits (Write i size) (stepsOf plan)) left) (ap planMap read ∙ plan-map s i size t gc gs h)
+    (loads-back g s (Write i size) plan z (own-accepted g s (Write i size) z c b h)))
+own-loads-back g s (Discard i) z c b h = loads-back g s (Discard i) (encodeAll (planOf s (Discard i))) z (own-accepted g s (Discard i) z c b h)
+
+-- And by the calls: the planner's answer, what it wrote, and what carrying it out leaves.
+pub written-loads-back : WrittenLoadsBack
+written-loads-back g s r out n z e =
+    let a = answered s r (length out) n e in
+    let same = sym (sound-shape g s z) in
+    let plan = encodeAll (planOf s r) in
+    let count : wholeSteps plan ≡ n = whole-encoded (planOf s r) ∙ sym (a .steps) in
+    subst (LoadsBack g s (chunkOf r) (ownLink s r) (ownUnits s r)) (ap₂ (carryImage s r) (sym (written-is-plan s r out n e)) count)
+    (own-loads-back g s r z (ap (λ (q : Shape). goodChunk q r) same ∙ a .good .chunk) (ap (λ (q : Shape). goodSize q r) same ∙ a .good .size) (a .free))

@@ -1,3 +1,4 @@
 pub mod Events
 pub mod Demand
 pub mod Own
+pub mod LoadsBack

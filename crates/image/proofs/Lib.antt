@@ -11,6 +11,7 @@ pub mod Room
 pub mod Order
 pub mod Fate
 pub mod Wording
+pub mod Freed
 pub mod Fresh
 pub mod Cases
 pub mod Theorems

@@ -15,6 +15,7 @@ use Rattle.search.proofs.Members.{all-at, all-take, all-first, member-getD}
 use Rattle.search.proofs.Kept.{all-kept}
 use Rattle.search.proofs.Distinct.{distinct-from, distinct-take}
 use Rattle.search.proofs.Ranges.{all-below-intro, length-from}
+use Rattle.search.proofs.Mapping.{map-below-ext}
 use Rattle.layout.specs.declared.Shape.{Shape}
 use Rattle.layout.specs.Layout.{X, mapWords, unitBytes, shapeOf}
 use Rattle.layout.specs.Shaped.{Limits}
@@ -214,6 +215,10 @@ module _ (s : List ℕ) (i size : ℕ) (us : List ℕ) (m : ℕ) (l : Limits (sh
       ∙ sym (word-past j e))
       (either (ltb j k))
 
+  -- the units of the pieces, in their order
+  pieces-on : map (λ j. unitOf j (writeSteps us m (mapWords (shapeOf s)) i)) (below (length us)) ≡ us
+  pieces-on = map-below-ext (λ j. unitOf j xs) (λ j. getD us j 0) k (λ j h. unit-of j ∙ word-unit j h) ∙ map-places us
+
   stores : every (mapFits m (freeMap s) (λ j. unitOf j xs)) xs ≡ true
   unfolding every mapFits
   stores =
@@ -254,16 +259,17 @@ module _ (s : List ℕ) (i size : ℕ) (us : List ℕ) (m : ℕ) (l : Limits (sh
   unfolding rule5 endsIn collect unitIn mapIn
   five = rw (before, after, ends-in-fence false (map (dataStep us) (below k) ++ map (mapStep m us) (below p)))
 
+  back : stepsOf (encodeAll (writeSteps us m (mapWords (shapeOf s)) i)) ≡ writeSteps us m (mapWords (shapeOf s)) i
+  back = read-back g l xs in-range
+
   write-unbroken : Unbroken s (Write i size) (encodeAll (writeSteps us m (mapWords (shapeOf s)) i))
-  write-unbroken =
-      let back = read-back g l xs in-range in
-      record {
-        one = rule1-kept g l xs in-range steps-few;
-        two = rw back two;
-        three = rw back three;
-        four = rw back four;
-        five = rw back five;
-      }
+  write-unbroken = record {
+    one = rule1-kept g l xs in-range steps-few;
+    two = rw back two;
+    three = rw back three;
+    four = rw back four;
+    five = rw back five;
+  }
 
 -- ---- for a discard
 
@@ -342,6 +348,18 @@ module _ (s : List ℕ) (i size : ℕ) (z : Tested s) (gc : goodChunk (shapeOf s
   pub plan-map : planMap (planOf s (Write i size)) ≡ firstOr X (freeMaps s)
   unfolding planOf
   plan-map = map-is s i size us m l low taken few units-free units-differ map-free
+
+  -- piece by piece
+  pub plan-pieces : map (λ j. unitOf j (planOf s (Write i size))) (below (unitsFor size)) ≡ take (unitsFor size) (freeUnits s)
+  unfolding planOf
+  plan-pieces =
+      ap (λ (n : ℕ). map (λ j. unitOf j (planOf s (Write i size))) (below n)) (sym taken)
+      ∙ pieces-on s i size us m l low taken few units-free units-differ map-free
+
+  -- its bytes are read back as its steps
+  pub plan-read : stepsOf (encodeAll (planOf s (Write i size))) ≡ planOf s (Write i size)
+  unfolding planOf
+  plan-read = back s i size us m l low taken few units-free units-differ map-free
 
 pub planned-accepted :
     (s : List ℕ) (r : Request) → Tested s → goodChunk (shapeOf s) r ≡ true → goodSize (shapeOf s) r ≡ true → needOf r ≤ length (freeUnits s)

@@ -1,4 +1,4 @@
--- The theorems of this crate that a reader wants: nothing else cites them.
+-- The theorems of this crate that a reader wants.
 use Prim.Native.Nat.{ℕ, _+_, _*_, _≤_, _<_}
 use native.Mathlib.Omega.{arith}
 use mathlib.Core.Path.{_≡_, refl, ap, sym, subst, _∙_}
@@ -93,17 +93,22 @@ module _ (s : List ℕ) (r : Request) (room n : ℕ) where
 
 -- ---- "the planner's plans pass"
 
--- Whenever the planner answers n steps, the checker accepts the bytes of those n, as they then stand in the lent output, for the image and the request
--- they were made for.
-pub own-plans-pass : (s : List ℕ) (r : Request) (out : List ℕ) (n : ℕ) → planAnswer s r (length out) ≡ Steps n
-    → checked s r (take (stepBytes * n) (planOut s r out)) ≡ Accepted
-own-plans-pass s r out n e =
+-- Whenever the planner answers n steps, the first 16·n bytes of the lent output are then those of its plan.
+pub written-is-plan : (s : List ℕ) (r : Request) (out : List ℕ) (n : ℕ) → planAnswer s r (length out) ≡ Steps n
+    → take (stepBytes * n) (planOut s r out) ≡ encodeAll (planOf s r)
+written-is-plan s r out n e =
     let a = answered s r (length out) n e in
     let xs = planOf s r in
     let bytes : planOut s r out ≡ written (Steps n) xs out = ap (λ (q : Planned). written q xs out) e in
     let long : length (encodeAll xs) ≡ stepBytes * n = length-encoded xs ∙ ap (λ (k : ℕ). stepBytes * k) (sym (a .steps)) in
-    let front = ap (take (stepBytes * n)) bytes ∙ take-at (encodeAll xs) (drop (stepBytes * n) out) (stepBytes * n) long in
-    ap (checked s r) front ∙ planned-accepted s r (a .good .sound) (a .good .chunk) (a .good .size) (a .free)
+    ap (take (stepBytes * n)) bytes ∙ take-at (encodeAll xs) (drop (stepBytes * n) out) (stepBytes * n) long
+
+-- The checker accepts them, for the image and the request they were made for.
+pub own-plans-pass : (s : List ℕ) (r : Request) (out : List ℕ) (n : ℕ) → planAnswer s r (length out) ≡ Steps n
+    → checked s r (take (stepBytes * n) (planOut s r out)) ≡ Accepted
+own-plans-pass s r out n e =
+    let a = answered s r (length out) n e in
+    ap (checked s r) (written-is-plan s r out n e) ∙ planned-accepted s r (a .good .sound) (a .good .chunk) (a .good .size) (a .free)
 
 -- ---- 9 "fewer than k units free"
 
