@@ -19,8 +19,8 @@ use Rattle.image.specs.Soundness.{unitsOf}
 use Rattle.image.specs.Free.{freeUnit, freeMap, freeUnits, freeMaps, heldUnits}
 use Rattle.search.proofs.Bools.{contradict, and-left, and-right, and-intro, not-of-false, is-false, same}
 use Rattle.search.proofs.Members.{member-nil, member-cons, member-head}
-use Rattle.search.proofs.Ranges.{member-below, below-member, any-below, any-below-intro, any-below-none, any-below-none-intro, length-from}
-use Rattle.search.proofs.Kept.{keep-ext, keep-member, member-keep}
+use Rattle.search.proofs.Ranges.{member-below, any-below, any-below-intro, any-below-none, any-below-none-intro, length-from}
+use Rattle.search.proofs.Kept.{keep-ext}
 use Rattle.search.proofs.Distinct.{distinct-from, distinct-keep}
 use Rattle.search.proofs.Counting.{unlisted, unlisted-exactly}
 use Rattle.search.proofs.Joined.{distinct-joined, member-joined, length-joined}
@@ -63,25 +63,9 @@ freeMap-intro s k h f =
 
 -- ---- the lists
 
-pub member-freeUnits : (s : List ℕ) (u : ℕ) → member u (freeUnits s) ≡ freeUnit s u
-unfolding freeUnits
-member-freeUnits s u =
-    same (member u (freeUnits s)) (freeUnit s u) (λ m. member-keep (freeUnit s) u (below (shapeOf s .n)) m .1)
-    (λ e. keep-member (freeUnit s) u (below (shapeOf s .n)) (below-member u (shapeOf s .n) (freeUnit-below s u e)) e)
-
-pub member-freeMaps : (s : List ℕ) (k : ℕ) → member k (freeMaps s) ≡ freeMap s k
-unfolding freeMaps
-member-freeMaps s k =
-    same (member k (freeMaps s)) (freeMap s k) (λ m. member-keep (freeMap s) k (below (shapeOf s .m)) m .1)
-    (λ e. keep-member (freeMap s) k (below (shapeOf s .m)) (below-member k (shapeOf s .m) (freeMap-below s k e)) e)
-
 pub distinct-freeUnits : (s : List ℕ) → distinct (freeUnits s) ≡ true
 unfolding freeUnits
 distinct-freeUnits s = distinct-keep (freeUnit s) (below (shapeOf s .n)) (distinct-from 0 (shapeOf s .n))
-
-pub distinct-freeMaps : (s : List ℕ) → distinct (freeMaps s) ≡ true
-unfolding freeMaps
-distinct-freeMaps s = distinct-keep (freeMap s) (below (shapeOf s .m)) (distinct-from 0 (shapeOf s .m))
 
 -- ---- how many
 

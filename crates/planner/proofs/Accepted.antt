@@ -4,7 +4,7 @@ use native.Mathlib.Omega.{arith}
 use mathlib.Core.Path.{_≡_, refl, ap, sym, _∙_}
 use mathlib.Core.Logic.{⊎-elim}
 use mathlib.Core.Bool.{Bool, true, false, _&&_}
-use mathlib.Core.List.{List, [], _∷_, _++_, map, append-assoc, append-nil}
+use mathlib.Core.List.{List, [], _∷_, _++_, map, map-id, append-assoc, append-nil}
 use lib.ListN.{length, getD, take}
 use lib.Seq.{length-take-le}
 use lib.Dec.{eqb, ltb, leb}
@@ -15,7 +15,7 @@ use Rattle.search.proofs.Members.{all-at, all-take, all-first, member-getD}
 use Rattle.search.proofs.Kept.{all-kept}
 use Rattle.search.proofs.Distinct.{distinct-from, distinct-take}
 use Rattle.search.proofs.Ranges.{all-below-intro, length-from}
-use Rattle.search.proofs.Mapping.{map-below-ext}
+use Rattle.search.proofs.Mapping.{map-below-ext, map-places, first-constant}
 use Rattle.layout.specs.declared.Shape.{Shape}
 use Rattle.layout.specs.Layout.{X, mapWords, unitBytes, shapeOf}
 use Rattle.layout.specs.Shaped.{Limits}
@@ -40,7 +40,7 @@ use Rattle.checker.specs.Rules.{maxSteps, collect, every, pieceIn, unitIn, mapI
 use Rattle.checker.proofs.Accepting.{Unbroken, accepted}
 use Rattle.planner.specs.Planner.{dataStep, dataSteps, valueFor, mapStep, mapSteps, linkSteps, writeSteps, planOf}
 use Rattle.planner.proofs.Storing.{length-writeSteps}
-use Rattle.planner.proofs.StepLists.{map-same, map-places, first-same-map, passed-over, drawn, every-of, before-link, each-from, unit-here, unit-past, ends-in-fence}
+use Rattle.planner.proofs.StepLists.{passed-over, drawn, every-of, before-link, each-from, unit-here, unit-past, ends-in-fence}
 
 -- ---- rule 1: a list of steps in range, at most 64 of them, and its bytes
 
@@ -162,7 +162,7 @@ module _ (s : List ℕ) (i size : ℕ) (us : List ℕ) (m : ℕ) (l : Limits (sh
   pieces-are =
       rw flat
       (drawn (dataStep us) later pieceIn (λ j. j) (λ j. refl) (below k)
-      ∙ rw (passed-over (mapStep m us) (linkSteps i m) (collect pieceIn) (λ j ys. refl) (below p), append-nil (map (λ (j : ℕ). j) (below k)), map-same))
+      ∙ rw (passed-over (mapStep m us) (linkSteps i m) (collect pieceIn) (λ j ys. refl) (below p), append-nil (map (λ (j : ℕ). j) (below k)), map-id (below k)))
 
   units-are : units (writeSteps us m (mapWords (shapeOf s)) i) ≡ us
   unfolding collect unitIn
@@ -178,7 +178,7 @@ module _ (s : List ℕ) (i size : ℕ) (us : List ℕ) (m : ℕ) (l : Limits (sh
       (passed-over (dataStep us) later (collect wordIn) (λ j ys. refl) (below k)
       ∙ drawn (mapStep m us) (linkSteps i m) wordIn (λ j. j) (λ j. refl) (below p)
       ∙ append-nil (map (λ (j : ℕ). j) (below p))
-      ∙ map-same (below p))
+      ∙ map-id (below p))
 
   map-is : planMap (writeSteps us m (mapWords (shapeOf s)) i) ≡ m
   unfolding planMap collect mapIn
@@ -187,7 +187,7 @@ module _ (s : List ℕ) (i size : ℕ) (us : List ℕ) (m : ℕ) (l : Limits (sh
       (ap maps flat ∙ passed-over (dataStep us) later (collect mapIn) (λ j ys. refl) (below k)
       ∙ drawn (mapStep m us) (linkSteps i m) mapIn (λ j. m) (λ j. refl) (below p)
       ∙ append-nil (map (λ (j : ℕ). m) (below p)))
-      ∙ first-same-map m X 0 p (omega (arith, l .p-low))
+      ∙ first-constant m X 0 p (omega (arith, l .p-low))
 
   links-are : links xs ≡ i ∷ []
   unfolding collect linkIn

@@ -2,5 +2,4 @@ pub mod Storing
 pub mod AnswerLaws
 pub mod StepLists
 pub mod Accepted
-pub mod LowestLaws
 pub mod Theorems

@@ -5,35 +5,14 @@ use mathlib.Core.Path.{_≡_, refl, ap, _∙_}
 use mathlib.Core.Logic.{⊎-elim}
 use mathlib.Core.Bool.{Bool, true}
 use mathlib.Core.List.{List, [], _∷_, _++_, map}
-use lib.ListN.{length, getD}
-use lib.Seq.{ext-getD}
 use lib.Dec.{eqb}
 use borrow.Author.Tests.{eqb-true, eqb-false, ne-eqb}
-use Rattle.search.specs.Search.{from, below, firstOr}
+use Rattle.search.specs.Search.{from}
 use Rattle.search.proofs.Bools.{either, cond-true, cond-false}
-use Rattle.search.proofs.Mapping.{length-map-from, getD-map-below}
 use Rattle.steps.specs.declared.Step.{Step}
 use Rattle.steps.specs.declared.Step.the-variants.{Data, Fence}
 use Rattle.steps.specs.Encodable.{Each}
 use Rattle.checker.specs.Rules.{collect, every, unitOf, endsIn, isFence, beforeLink}
-
--- ---- numbers
-
-pub map-same : (js : List ℕ) → map (λ (j : ℕ). j) js ≡ js
-map-same [] = refl
-map-same (j ∷ js) = ap (λ (l : List ℕ). j ∷ l) (map-same js)
-
-pub map-places : (us : List ℕ) → map (λ j. getD us j 0) (below (length us)) ≡ us
-map-places us =
-    ext-getD 0 (map (λ j. getD us j 0) (below (length us))) us (length-map-from (λ j. getD us j 0) 0 (length us)) λ j h.
-    let k = length-map-from (λ j. getD us j 0) 0 (length us) in getD-map-below (λ j. getD us j 0) (length us) j 0 (omega arith)
-
-pub first-same-map : (m d a n : ℕ) → 0 < n → firstOr d (map (λ (j : ℕ). m) (from a n)) ≡ m
-unfolding from
-first-same-map m d a zero h = absurd (omega arith)
-first-same-map m d a (suc n) h = refl
-
--- ---- steps
 
 module _ (f : ℕ → Step) (t : List Step) where
   -- a function that passes over each of them
@@ -61,9 +40,6 @@ module _ (f : ℕ → Step) (t : List Step) where
   each-from P a zero h r = r
   each-from P a (suc n) h r = (h a (omega arith) (omega arith), each-from P (suc a) n (λ j p q. h j (omega arith) (omega arith)) r)
 
-apart : (a j : ℕ) → (a ≡ j → ⊥) → a ≤ j → suc a ≤ j
-apart a j ne h = omega arith
-
 -- the unit of a piece, where piece j is on unit f j
 module _ (f : ℕ → ℕ) (t : List Step) (j : ℕ) where
   abbrev piece : ℕ → Step
@@ -75,9 +51,7 @@ module _ (f : ℕ → ℕ) (t : List Step) (j : ℕ) where
   unit-here a (suc n) h l =
       ⊎-elim (λ e. cond-true (eqb a j) (f a) (unitOf j (map piece (from (suc a) n) ++ t)) e ∙ ap f (eqb-true a j e))
       (λ e.
-      let ne = eqb-false a j e in
-      let low : suc a ≤ j = apart a j ne h in
-      cond-false (eqb a j) (f a) (unitOf j (map piece (from (suc a) n) ++ t)) e ∙ unit-here (suc a) n low (omega arith))
+      cond-false (eqb a j) (f a) (unitOf j (map piece (from (suc a) n) ++ t)) e ∙ unit-here (suc a) n (omega (arith, eqb-false a j e)) (omega arith))
       (either (eqb a j))
 
   pub unit-past : (a n : ℕ) → a + n ≤ j → unitOf j (map piece (from a n) ++ t) ≡ unitOf j t

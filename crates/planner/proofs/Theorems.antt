@@ -9,7 +9,10 @@ use lib.Seq.{length-take-le, take-at}
 use lib.Dec.{ltb, leb}
 use borrow.Author.Tests.{lt-ltb, ltb-true, ltb-false, leb-true}
 use Rattle.search.specs.Search.{firstOr}
+use Rattle.search.specs.Sets.{Lowest}
 use Rattle.search.proofs.Bools.{and-right}
+use Rattle.search.proofs.Members.{first-taken}
+use Rattle.search.proofs.Rising.{taken-lowest}
 use Rattle.layout.specs.declared.Refusal.{Refusal}
 use Rattle.layout.specs.declared.Refusal.the-variants.{Range, Size, NoRoom, Small}
 use Rattle.layout.specs.Layout.{X, unitBytes, shapeOf}
@@ -32,9 +35,7 @@ use Rattle.checker.specs.Rules.{units, planMap, goodChunk, goodSize, checked}
 use Rattle.planner.specs.declared.Planned.{Planned}
 use Rattle.planner.specs.declared.Planned.the-variants.{Steps, Refused}
 use Rattle.planner.specs.Planner.{planOf, planIn, planAnswer, written, planOut}
-use Rattle.planner.specs.Lowest.{Lowest}
 use Rattle.planner.proofs.Storing.{length-writeSteps}
-use Rattle.planner.proofs.LowestLaws.{taken-lowest}
 use Rattle.planner.proofs.Accepted.{plan-units, plan-map, planned-accepted}
 
 -- ---- what an answer says
@@ -152,10 +153,6 @@ always-room s r room n h e =
     omega (arith, units-free s h, need-few s r (f .0))
 
 -- ---- the planner's write: "on the k lowest free units, rising; .. the lowest free map"
-
-first-taken : (d : ℕ) (xs : List ℕ) → 0 < length xs → take 1 xs ≡ firstOr d xs ∷ []
-first-taken d [] h = absurd (omega arith)
-first-taken d (x ∷ xs) h = refl
 
 module _ (s : List ℕ) (i size room n : ℕ) (e : planAnswer s (Write i size) room ≡ Steps n) where
   told : Answered s (Write i size) room n

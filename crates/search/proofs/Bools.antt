@@ -115,11 +115,6 @@ pub or-none : (a b : Bool) → a ≡ false → b ≡ false → a || b ≡ false
 or-none true b p q = p
 or-none false b p q = q
 
-pub or-swap : (a b c : Bool) → (a || (b || c)) ≡ (b || (a || c))
-or-swap true true c = refl
-or-swap true false c = refl
-or-swap false b c = refl
-
 pub or-mid : (a b c d : Bool) → ((a || b) || (c || d)) ≡ ((a || c) || (b || d))
 or-mid true b c d = refl
 or-mid false true true d = refl

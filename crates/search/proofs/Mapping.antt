@@ -7,9 +7,9 @@ use mathlib.Core.Logic.{_⊎_, inl, inr}
 use mathlib.Core.Bool.{true}
 use mathlib.Core.List.{List, [], _∷_, map}
 use lib.ListN.{length, getD, take, set, length-map}
-use lib.Seq.{getD-set-same, getD-set-other}
+use lib.Seq.{ext-getD, getD-set-same, getD-set-other}
 use borrow.Author.Count.{below-more}
-use Rattle.search.specs.Search.{from, below, member, distinct}
+use Rattle.search.specs.Search.{from, below, member, distinct, firstOr}
 use Rattle.search.proofs.Bools.{contradict, is-false}
 use Rattle.search.proofs.Members.{member-nil, member-cons, member-head, member-tail}
 use Rattle.search.proofs.Ranges.{length-from, member-below}
@@ -35,6 +35,18 @@ module _ {A : Type 0} where
 
   pub getD-map-below : (f : ℕ → A) (n j : ℕ) (d : A) → j < n → getD (map f (below n)) j d ≡ f j
   getD-map-below f n j d h = getD-map-from f 0 n j d h ∙ ap f (zero-add j)
+
+-- the elements of a list, place by place
+pub map-places : (us : List ℕ) → map (λ j. getD us j 0) (below (length us)) ≡ us
+map-places us =
+    ext-getD 0 (map (λ j. getD us j 0) (below (length us))) us (length-map-from (λ j. getD us j 0) 0 (length us)) λ j h.
+    let k = length-map-from (λ j. getD us j 0) 0 (length us) in getD-map-below (λ j. getD us j 0) (length us) j 0 (omega arith)
+
+-- one number for each of some
+pub first-constant : (m d a n : ℕ) → 0 < n → firstOr d (map (λ (j : ℕ). m) (from a n)) ≡ m
+unfolding from
+first-constant m d a zero h = absurd (omega arith)
+first-constant m d a (suc n) h = refl
 
 -- a store of the next element extends what holds of the elements before it
 pub store-more : (l : List ℕ) (g : ℕ → ℕ) (i v : ℕ) → i < length l → ((k : ℕ) → k < i → getD l k 0 ≡ g k) → v ≡ g i

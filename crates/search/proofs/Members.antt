@@ -7,7 +7,7 @@ use mathlib.Core.Path.{_≡_, refl, sym, ap, _∙_}
 use mathlib.Core.Logic.{_⊎_, inl, inr, ⊎-elim}
 use mathlib.Core.Bool.{Bool, true, false, not, _&&_, _||_, false≢true, or-assoc}
 use mathlib.Core.List.{List, [], _∷_, _++_}
-use lib.ListN.{length, getD, take, drop, replicate, drop-of-length-le}
+use lib.ListN.{length, getD, take, drop, drop-of-length-le}
 use lib.Seq.{drop-cons}
 use lib.Dec.{eqb}
 use borrow.Author.Tests.{eqb-true, eq-eqb}
@@ -85,10 +85,6 @@ any-none f xs h = is-false (any f xs) (λ e. let r = any-at f xs e in contradict
 pub any-none-at : (f : ℕ → Bool) (xs : List ℕ) → any f xs ≡ false → (x : ℕ) → member x xs ≡ true → f x ≡ false
 any-none-at f xs e x m = is-false (f x) (λ p. contradict (any-intro f xs x m p) e)
 
--- a test that follows from another
-pub all-weaken : (f g : ℕ → Bool) (xs : List ℕ) → ((x : ℕ) → g x ≡ true → f x ≡ true) → all g xs ≡ true → all f xs ≡ true
-all-weaken f g xs h e = all-intro f xs (λ x m. h x (all-at g xs e x m))
-
 pub all-take : (f : ℕ → Bool) (k : ℕ) (xs : List ℕ) → all f xs ≡ true → all f (take k xs) ≡ true
 all-take f k xs e = all-intro f (take k xs) (λ x m. all-at f xs e x (member-take k x xs m))
 
@@ -136,10 +132,6 @@ member-append x xs ys = any-append (eqb x) xs ys
 
 -- ---- along a list: what is left from place j on, after one more number
 
-pub member-start : (x : ℕ) (xs : List ℕ) → member x xs ≡ any (eqb x) (drop 0 xs)
-unfolding member
-member-start x xs = refl
-
 module _ (f : ℕ → Bool) (xs : List ℕ) (j : ℕ) where
   pub all-more : j < length xs → f (getD xs j 0) ≡ true → all f (drop j xs) ≡ all f (drop (j + 1) xs)
   unfolding all
@@ -167,14 +159,17 @@ module _ (f : ℕ → Bool) (xs : List ℕ) (j : ℕ) where
 
 -- ---- the first number of a list
 
+pub first-member : (d : ℕ) (xs : List ℕ) → 0 < length xs → member (firstOr d xs) xs ≡ true
+first-member d [] h = absurd (omega arith)
+first-member d (x ∷ xs) h = member-head x x xs refl
+
 pub all-first : (f : ℕ → Bool) (d : ℕ) (xs : List ℕ) → all f xs ≡ true → 0 < length xs → f (firstOr d xs) ≡ true
-all-first f d [] e h = absurd (omega arith)
-all-first f d (x ∷ xs) e h = all-at f (x ∷ xs) e x (member-head x x xs refl)
+all-first f d xs e h = all-at f xs e (firstOr d xs) (first-member d xs h)
 
 pub first-same : (a b : ℕ) (xs : List ℕ) → 0 < length xs → firstOr a xs ≡ firstOr b xs
 first-same a b [] h = absurd (omega arith)
 first-same a b (x ∷ xs) h = refl
 
-pub first-replicate : (n a d : ℕ) → 0 < n → firstOr d (replicate n a) ≡ a
-first-replicate zero a d h = absurd (omega arith)
-first-replicate (suc n) a d h = refl
+pub first-taken : (d : ℕ) (xs : List ℕ) → 0 < length xs → take 1 xs ≡ firstOr d xs ∷ []
+first-taken d [] h = absurd (omega arith)
+first-taken d (x ∷ xs) h = refl

@@ -1,18 +1,22 @@
--- The members of a set in rising order: one step, the end, and the first of them.
+-- The members of a set in rising order: one step, the end, the first of them, and the k lowest.
 use Prim.Native.Nat.{ℕ, zero, suc, _+_, _-_, _≤_, _<_}
 use native.Mathlib.Nat.{le-refl, le-trans, sub-zero}
 use native.Mathlib.Numerals.{add-one}
 use native.Mathlib.Omega.{arith}
-use mathlib.Core.Path.{_≡_, refl, ap, _∙_}
+use mathlib.Core.Path.{_≡_, refl, sym, ap, subst, _∙_}
 use mathlib.Core.Logic.{⊎-elim}
 use mathlib.Core.Bool.{Bool, true, false, cond}
 use mathlib.Core.List.{List, [], _∷_}
-use lib.ListN.{length, take, drop, set}
-use lib.Seq.{sets}
-use Rattle.search.specs.Search.{from, below, keep, rising, firstOr}
-use Rattle.search.proofs.Bools.{either}
-use Rattle.search.proofs.Ranges.{length-from}
-use Rattle.search.proofs.Kept.{keep-few}
+use lib.ListN.{length, getD, take, set}
+use lib.Seq.{sets, getD-take, length-take-le}
+use lib.Dec.{ltb}
+use borrow.Author.Tests.{ltb-true, ltb-false}
+use Rattle.search.specs.Search.{from, below, keep, member, rising, firstOr}
+use Rattle.search.specs.Sets.{Lowest}
+use Rattle.search.proofs.Bools.{contradict, either}
+use Rattle.search.proofs.Members.{member-place, member-getD, member-take}
+use Rattle.search.proofs.Ranges.{length-from, member-from, below-member}
+use Rattle.search.proofs.Kept.{keep-nil, keep-cons-true, keep-cons-false, keep-few, keep-member, member-keep}
 
 module _ (f : ℕ → Bool) (n : ℕ) where
   pub rising-end : (i : ℕ) → n ≤ i → rising f n i ≡ []
@@ -59,16 +63,11 @@ module _ (f : ℕ → Bool) (n : ℕ) where
       go (suc c) i e h = at c i e (f i) refl h (go c (i + 1) (omega arith))
 
 -- one turn of a loop that stores the first k - j of xs from index j
-module _ (j k a : ℕ) (xs ys : List ℕ) (h : j < k) (e : xs ≡ a ∷ ys) where
-  pub sets-take-step : (l : List ℕ) → sets (set l j a) (j + 1) (take (k - (j + 1)) ys) ≡ sets l j (take (k - j) xs)
-  sets-take-step l =
-      let d : k - j ≡ suc (k - (j + 1)) = omega arith in
-      rw (d, e, add-one j)
-
-  pub drop-step : drop (k - (j + 1)) ys ≡ drop (k - j) xs
-  drop-step =
-      let d : k - j ≡ suc (k - (j + 1)) = omega arith in
-      rw (d, e)
+pub sets-take-step : (j k a : ℕ) (xs ys : List ℕ) → j < k → xs ≡ a ∷ ys → (l : List ℕ)
+    → sets (set l j a) (j + 1) (take (k - (j + 1)) ys) ≡ sets l j (take (k - j) xs)
+sets-take-step j k a xs ys h e l =
+    let d : k - j ≡ suc (k - (j + 1)) = omega arith in
+    rw (d, e, add-one j)
 
 -- ---- how many there are
 
@@ -88,3 +87,59 @@ module _ (f : ℕ → Bool) (n : ℕ) where
   pub rising-all : rising f n 0 ≡ keep f (below n)
   unfolding rising
   rising-all = rw sub-zero
+
+-- ---- the first k of them are the k lowest
+
+-- each number is below every later one
+abbrev Rising : List ℕ → Type 0
+Rising xs = (i j : ℕ) → i < j → j < length xs → getD xs i 0 < getD xs j 0
+
+lower-first : (a : ℕ) (xs : List ℕ) → ((u : ℕ) → member u xs ≡ true → a < u) → Rising xs → Rising (a ∷ xs)
+lower-first a xs low next i zero h l = absurd (omega arith)
+lower-first a xs low next zero (suc j) h l = low (getD xs j 0) (member-getD xs j (omega arith))
+lower-first a xs low next (suc i) (suc j) h l = next i j (omega arith) (omega arith)
+
+module _ (f : ℕ → Bool) where
+  kept-rising : (n a : ℕ) → Rising (keep f (from a n))
+  unfolding from
+  kept-rising zero a = rw (keep-nil f) (λ i j h l. absurd (omega arith))
+  kept-rising (suc n) a =
+      let xs = from (suc a) n in
+      let next : Rising (keep f xs) = kept-rising n (suc a) in
+      ⊎-elim
+      (λ t. rw (keep-cons-true f a xs t) (lower-first a (keep f xs) (λ u m. member-from u (suc a) n (member-keep f u xs m .0) .0) next))
+      (λ t. rw (keep-cons-false f a xs t) next)
+      (either (f a))
+
+  pub taken-lowest : (n k : ℕ) → ((v : ℕ) → f v ≡ true → v < n) → k ≤ length (keep f (below n)) → Lowest f k (take k (keep f (below n)))
+  taken-lowest n k high h = record {
+    count = long;
+    inside = λ u m. member-keep f u (below n) (member-take k u xs m) .1;
+    rising = λ i j a b. rw (getD-take k xs i 0 (omega arith), getD-take k xs j 0 b) (kept-rising n 0 i j a (omega arith));
+    others = λ u v m t q.
+        let p = member-place u (take k xs) m in
+        let r = member-place v xs (keep-member f v (below n) (below-member v n (high v t)) t) in
+        let i : ℕ = p .0 in
+        let j : ℕ = r .0 in
+        let low : i < k = subst (λ (c : ℕ). i < c) long (p .1) in
+        let past : k ≤ j = not-taken j (r .1) v (r .2) q in
+        let up : getD xs i 0 < getD xs j 0 = kept-rising n 0 i j (omega arith) (r .1) in
+        let eu : getD xs i 0 ≡ u = sym (getD-take k xs i 0 low) ∙ p .2 in
+        let ev : getD xs j 0 ≡ v = r .2 in
+        omega arith;
+  }
+    where
+      xs : List ℕ
+      xs = keep f (below n)
+
+      long : length (take k xs) ≡ k
+      long = length-take-le k xs h
+
+      -- a number that is not among the first k stands at place k or later
+      not-taken : (j : ℕ) → j < length xs → (v : ℕ) → getD xs j 0 ≡ v → member v (take k xs) ≡ false → k ≤ j
+      not-taken j b v e q =
+          ⊎-elim
+          (λ t. let l = ltb-true j k t in
+          contradict (ap (λ (w : ℕ). member w (take k xs)) (sym e ∙ sym (getD-take k xs j 0 l)) ∙ member-getD (take k xs) j (subst (λ (c : ℕ). j < c) (sym long) l)) q)
+          (λ t. ltb-false j k t)
+          (either (ltb j k))
