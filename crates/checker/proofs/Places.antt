@@ -8,8 +8,8 @@ use native.Mathlib.Omega.{arith}
 use lib.ListN.{length, length-append}
 use Rattle.search.specs.Search.{member, distinct}
 use Rattle.search.proofs.Bools.{contradict, is-false, and-left, and-right, and-intro, or-cases, or-left, or-right}
-use Rattle.search.proofs.Members.{member-nil, member-cons, member-append}
-use Rattle.search.proofs.Distinct.{distinct-nil, distinct-head, distinct-tail, distinct-append, disjoint-intro}
+use Rattle.search.proofs.Members.{member-nil, member-append}
+use Rattle.search.proofs.Distinct.{distinct-nil, distinct-append, distinct-later, distinct-apart, distinct-few, disjoint-intro}
 use Rattle.steps.specs.declared.Step.{Step}
 use Rattle.steps.specs.declared.Decoded.{Decoded}
 use Rattle.steps.specs.declared.Decoded.the-variants.{Whole, Malformed}
@@ -56,20 +56,6 @@ module _ (f : Step → Bool) where
 
 -- ---- numbers drawn from the steps
 
-pub apart : (n : ℕ) (ps qs : List ℕ) → distinct (ps ++ qs) ≡ true → member n ps ≡ true → member n qs ≡ true → ⊥
-apart n [] qs d p q = contradict p (member-nil n)
-apart n (a ∷ ps) qs d p q = go (apart n ps qs (distinct-tail a (ps ++ qs) d)) (member-cons n a ps p)
-  where
-    go : (member n ps ≡ true → member n qs ≡ true → ⊥) → (n ≡ a) ⊎ (member n ps ≡ true) → ⊥
-    go rest (inl e) =
-        contradict (ap (λ (z : ℕ). member z (ps ++ qs)) (sym e) ∙ member-append n ps qs ∙ or-right (member n ps) (member n qs) q)
-        (distinct-head a (ps ++ qs) d)
-    go rest (inr m) = rest m q
-
-pub later-distinct : (ps qs : List ℕ) → distinct (ps ++ qs) ≡ true → distinct qs ≡ true
-later-distinct [] qs d = d
-later-distinct (a ∷ ps) qs d = later-distinct ps qs (distinct-tail a (ps ++ qs) d)
-
 module _ (f : Step → List ℕ) where
   -- the number that a step gives is drawn, and a number that is drawn comes from a step
   pub collect-in : (xs : List Step) (i : ℕ) (x : Step) (n : ℕ) → At xs i x → member n (f x) ≡ true → member n (collect f xs) ≡ true
@@ -100,18 +86,19 @@ module _ (f : Step → List ℕ) where
   collect-once [] i j x y n d h k p q = absurd h
   collect-once (z ∷ xs) zero zero x y n d h k p q = refl
   collect-once (z ∷ xs) zero (suc j) x y n d h k p q =
-      absurd (apart n (f z) (collect f xs) d (ap (λ (s : Step). member n (f s)) h ∙ p) (collect-in xs j y n k q))
+      contradict (collect-in xs j y n k q) (distinct-apart n (f z) (collect f xs) d (ap (λ (s : Step). member n (f s)) h ∙ p))
   collect-once (z ∷ xs) (suc i) zero x y n d h k p q =
-      absurd (apart n (f z) (collect f xs) d (ap (λ (s : Step). member n (f s)) k ∙ q) (collect-in xs i x n h p))
-  collect-once (z ∷ xs) (suc i) (suc j) x y n d h k p q = ap suc (collect-once xs i j x y n (later-distinct (f z) (collect f xs) d) h k p q)
+      contradict (collect-in xs i x n h p) (distinct-apart n (f z) (collect f xs) d (ap (λ (s : Step). member n (f s)) k ∙ q))
+  collect-once (z ∷ xs) (suc i) (suc j) x y n d h k p q = ap suc (collect-once xs i j x y n (distinct-later (f z) (collect f xs) d) h k p q)
 
-  pub collect-distinct : ((x : Step) → distinct (f x) ≡ true) → (xs : List Step)
+  -- none is drawn twice, where each step gives at most one and each number comes from one place
+  pub collect-distinct : ((x : Step) → length (f x) ≤ 1) → (xs : List Step)
       → ((i j n : ℕ) (x y : Step) → At xs i x → At xs j y → member n (f x) ≡ true → member n (f y) ≡ true → i ≡ j)
       → distinct (collect f xs) ≡ true
   unfolding collect
   collect-distinct one [] h = distinct-nil
   collect-distinct one (z ∷ xs) h =
-      distinct-append (f z) (collect f xs) (one z)
+      distinct-append (f z) (collect f xs) (distinct-few (f z) (one z))
       (collect-distinct one xs (λ i j n x y a b p q. let e = h (suc i) (suc j) n x y a b p q in omega arith))
       (disjoint-intro (f z) (collect f xs) (λ n m. is-false (member n (collect f xs)) (λ q.
       let r = collect-at xs n q in

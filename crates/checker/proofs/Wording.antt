@@ -8,10 +8,11 @@ use native.Mathlib.Omega.{arith}
 use lib.ListN.{length}
 use lib.Dec.{eqb, ltb, leb}
 use borrow.Author.Tests.{eqb-true, eq-eqb, ltb-true, ltb-false, lt-ltb, leb-true, le-leb}
-use Rattle.search.specs.Search.{below, all, any, member, distinct, keep, firstOr}
+use Rattle.search.specs.Search.{below, all, member, distinct, keep, firstOr}
 use Rattle.search.specs.Sets.{without}
 use Rattle.search.proofs.Bools.{contradict, either, is-false, and-left, and-right, and-intro, and-three, not-of-true, and-false-right}
-use Rattle.search.proofs.Members.{member-nil, member-cons, member-head, all-at, all-intro, all-first}
+use Rattle.search.proofs.Members.{member-nil, member-cons, member-head, all-at, all-intro, first-member}
+use Rattle.search.proofs.Distinct.{distinct-later, distinct-apart}
 use Rattle.search.proofs.Ranges.{below-member, member-below, all-below-intro}
 use Rattle.search.proofs.Kept.{keep-none}
 use Rattle.search.proofs.Counting.{covers, unlisted-exactly}
@@ -28,7 +29,7 @@ use Rattle.steps.specs.declared.Request.the-variants.{Write, Discard}
 use Rattle.steps.specs.Steps.{stepBytes, wholeSteps, decodeAt, needOf, unitsFor, wordOf}
 use Rattle.checker.specs.Rules.{maxSteps, valueBelow, inRange, wholeInRange, rule1, collect, pieceIn, unitIn, mapIn, wordIn, linkIn, linkedIn, pieces, units, maps, words, links, linked, unitOf, wordFor, planMap, onceEach, rule2, mapFits, mapsFit, rule3, linksAre, rule4}
 use Rattle.checker.specs.Reading.{At, ValueBelow, Bounded, Rule1, Pieces, Rule2, MapWords, Rule3, OneLink, Rule4}
-use Rattle.checker.proofs.Places.{at-one, every-at, every-intro, apart, later-distinct, collect-in, collect-at, collect-once, collect-distinct, at-length, single-place, collect-none, collect-few}
+use Rattle.checker.proofs.Places.{at-one, every-at, every-intro, collect-in, collect-at, collect-once, collect-distinct, at-length, single-place, collect-none, collect-few}
 use Rattle.checker.proofs.StepLaws.{unitOf-none, unitOf-here, unitOf-later}
 use Rattle.checker.proofs.Facts.{once}
 
@@ -139,38 +140,13 @@ linked-in (Map k j v) n m = contradict m (member-nil n)
 linked-in (Link i v) n m = (i, v, refl, in-one n (wordOf v) m)
 linked-in Fence n m = contradict m (member-nil n)
 
--- each gives one number or none
-one-distinct : (n : ℕ) → distinct (n ∷ []) ≡ true
-unfolding distinct member any
-one-distinct n = refl
-
-piece-once : (x : Step) → distinct (pieceIn x) ≡ true
-unfolding pieceIn distinct
-piece-once (Data u j w) = one-distinct j
-piece-once (Map k j v) = refl
-piece-once (Link i v) = refl
-piece-once Fence = refl
-
-unit-once : (x : Step) → distinct (unitIn x) ≡ true
-unfolding unitIn distinct
-unit-once (Data u j w) = one-distinct u
-unit-once (Map k j v) = refl
-unit-once (Link i v) = refl
-unit-once Fence = refl
-
-word-once : (x : Step) → distinct (wordIn x) ≡ true
-unfolding wordIn distinct
-word-once (Data u j w) = refl
-word-once (Map k j v) = one-distinct j
-word-once (Link i v) = refl
-word-once Fence = refl
-
-link-few : (x : Step) → length (linkIn x) ≤ 1
-unfolding linkIn
-link-few (Data u j w) = omega arith
-link-few (Map k j v) = omega arith
-link-few (Link i v) = omega arith
-link-few Fence = omega arith
+-- each gives at most one number
+few : (x : Step) → (length (pieceIn x) ≤ 1) × (length (unitIn x) ≤ 1) × (length (wordIn x) ≤ 1) × (length (linkIn x) ≤ 1)
+unfolding pieceIn unitIn wordIn linkIn
+few (Data u j w) = (omega arith, omega arith, omega arith, omega arith)
+few (Map k j v) = (omega arith, omega arith, omega arith, omega arith)
+few (Link i v) = (omega arith, omega arith, omega arith, omega arith)
+few Fence = (omega arith, omega arith, omega arith, omega arith)
 
 -- a step that gives a LINK's number is a LINK
 link-some : (x : Step) → 1 ≤ length (linkIn x) → (i : ℕ) × (v : Value) × (x ≡ Link i v)
@@ -183,6 +159,13 @@ link-some Fence h = absurd (omega arith)
 one-link : (i : ℕ) (v : Value) → length (linkIn (Link i v)) ≡ 1
 unfolding linkIn
 one-link i v = refl
+
+-- the DATA step of a piece, and the MAP step of a word
+piece-at : (xs : List Step) (j : ℕ) → member j (pieces xs) ≡ true → (i : ℕ) × (u : ℕ) × (w : ℕ) × At xs i (Data u j w)
+piece-at xs j m = let r = collect-at pieceIn xs j m in let d = piece-in (r .1) j (r .3) in (r .0, d .0, d .1, subst (At xs (r .0)) (d .2) (r .2))
+
+word-at : (xs : List Step) (j : ℕ) → member j (words xs) ≡ true → (i : ℕ) × (k : ℕ) × (v : Value) × At xs i (Map k j v)
+word-at xs j m = let r = collect-at wordIn xs j m in let d = word-in (r .1) j (r .3) in (r .0, d .0, d .1, subst (At xs (r .0)) (d .2) (r .2))
 
 -- each number below n once and no other
 once-tested : (n : ℕ) (ys : List ℕ) → distinct ys ≡ true → ((y : ℕ) → member y ys ≡ true → y < n) → ((y : ℕ) → y < n → member y ys ≡ true)
@@ -212,10 +195,7 @@ module _ (free : ℕ → Bool) (xs : List Step) where
       let a = and-three (onceEach k (pieces xs)) (distinct (units xs)) (all free (units xs)) h in
       let p = once k (pieces xs) (a .0) in
       record {
-        each = λ j l.
-            let r = collect-at pieceIn xs j (once-there k (pieces xs) (a .0) j l) in
-            let d = piece-in (r .1) j (r .3) in
-            (r .0, d .0, d .1, subst (At xs (r .0)) (d .2) (r .2));
+        each = λ j l. piece-at xs j (once-there k (pieces xs) (a .0) j l);
         once = λ i i′ u u′ j w w′ s t. collect-once pieceIn xs i i′ (Data u j w) (Data u′ j w′) j (p .1) s t (here j) (here j);
         no-other = λ i u j w s. once-below k (pieces xs) (a .0) j (collect-in pieceIn xs i (Data u j w) j s (here j));
         different = λ i i′ u j j′ w w′ s t. collect-once unitIn xs i i′ (Data u j w) (Data u j′ w′) u (a .1) s t (here u) (here u);
@@ -225,20 +205,18 @@ module _ (free : ℕ → Bool) (xs : List Step) where
   pieces-tested : (k : ℕ) → Pieces free k xs → (onceEach k (pieces xs) && distinct (units xs) && all free (units xs)) ≡ true
   unfolding pieceIn
   pieces-tested k h =
-      let p = collect-distinct pieceIn piece-once xs (λ i j n x y s t m q.
+      let p = collect-distinct pieceIn (λ x. few x .0) xs (λ i j n x y s t m q.
       let d = piece-in x n m in
       let e = piece-in y n q in
       h .once i j (d .0) (e .0) n (d .1) (e .1) (subst (At xs i) (d .2) s) (subst (At xs j) (e .2) t)) in
-      let u = collect-distinct unitIn unit-once xs (λ i j n x y s t m q.
+      let u = collect-distinct unitIn (λ x. few x .1) xs (λ i j n x y s t m q.
       let d = unit-in x n m in
       let e = unit-in y n q in
       h .different i j n (d .0) (e .0) (d .1) (e .1) (subst (At xs i) (d .2) s) (subst (At xs j) (e .2) t)) in
       and-intro (onceEach k (pieces xs) && distinct (units xs)) (all free (units xs))
       (and-intro (onceEach k (pieces xs)) (distinct (units xs))
       (once-tested k (pieces xs) p
-      (λ j m. let r = collect-at pieceIn xs j m in
-      let d = piece-in (r .1) j (r .3) in
-      h .no-other (r .0) (d .0) j (d .1) (subst (At xs (r .0)) (d .2) (r .2)))
+      (λ j m. let r = piece-at xs j m in h .no-other (r .0) (r .1) j (r .2) (r .3))
       (λ j l. let r = h .each j l in collect-in pieceIn xs (r .0) (Data (r .1) j (r .2)) j (r .3) (here j))) u)
       (all-intro free (units xs) (λ n m.
       let r = collect-at unitIn xs n m in
@@ -275,8 +253,9 @@ unfolding collect pieceIn
 unit-at [] i u j w d h = absurd h
 unit-at (z ∷ xs) zero u j w d h = ap (λ (s : Step). unitOf j (s ∷ xs)) h ∙ unitOf-here u j w j xs refl
 unit-at (z ∷ xs) (suc i) u j w d h =
-    unitOf-skip z xs j (is-false (member j (pieceIn z)) (λ m. apart j (pieceIn z) (pieces xs) d m (collect-in pieceIn xs i (Data u j w) j h (here j))))
-    ∙ unit-at xs i u j w (later-distinct (pieceIn z) (pieces xs) d) h
+    unitOf-skip z xs j (is-false (member j (pieceIn z)) (λ m.
+    contradict (collect-in pieceIn xs i (Data u j w) j h (here j)) (distinct-apart j (pieceIn z) (pieces xs) d m)))
+    ∙ unit-at xs i u j w (distinct-later (pieceIn z) (pieces xs) d) h
 
 -- ---- rule 3
 
@@ -285,8 +264,7 @@ on-plan-map : (xs : List Step) (i m j : ℕ) (v : Value) → At xs i (Map m j v)
 unfolding planMap mapIn
 on-plan-map xs i m j v h =
     let some : 1 ≤ length (maps xs) = at-length mapIn xs i (Map m j v) h in
-    let first = all-first (λ y. member y (maps xs)) X (maps xs) (all-intro (λ y. member y (maps xs)) (maps xs) (λ y q. q)) (omega arith) in
-    let r = collect-at mapIn xs (firstOr X (maps xs)) first in
+    let r = collect-at mapIn xs (firstOr X (maps xs)) (first-member X (maps xs) (omega arith)) in
     let d = map-in (r .1) (firstOr X (maps xs)) (r .3) in
     (r .0, d .0, d .1, subst (At xs (r .0)) (d .2) (r .2))
 
@@ -304,10 +282,7 @@ module _ (free : ℕ → Bool) (xs : List Step) where
         record {
           one-map = λ i i′ m m′ j j′ v v′ s t. sym (eqb-true (planMap xs) m (f i m j v s .0)) ∙ eqb-true (planMap xs) m′ (f i′ m′ j′ v′ t .0);
           free-map = λ i m j v s. f i m j v s .1;
-          each = λ j l.
-              let r = collect-at wordIn xs j (once-there p (words xs) a j l) in
-              let d = word-in (r .1) j (r .3) in
-              (r .0, d .0, d .1, subst (At xs (r .0)) (d .2) (r .2));
+          each = λ j l. word-at xs j (once-there p (words xs) a j l);
           once = λ i i′ m m′ j v v′ s t. collect-once wordIn xs i i′ (Map m j v) (Map m′ j v′) j (once p (words xs) a .1) s t (here j) (here j);
           no-other = λ i m j v s. once-below p (words xs) a j (collect-in wordIn xs i (Map m j v) j s (here j));
           units = λ i i′ m j u w v l s t.
@@ -322,10 +297,8 @@ module _ (free : ℕ → Bool) (xs : List Step) where
       stores i m j v s =
           ⊎-elim
           (λ l. let b = ltb-true j k l in
-          let r = collect-at pieceIn xs j (once-there k (pieces xs) ps j b) in
-          let e = piece-in (r .1) j (r .3) in
-          let t = subst (At xs (r .0)) (e .2) (r .2) in
-          h .units i (r .0) m j (e .0) (e .1) v b s t ∙ sym (unit-at xs (r .0) (e .0) j (e .1) (once k (pieces xs) ps .1) t))
+          let r = piece-at xs j (once-there k (pieces xs) ps j b) in
+          h .units i (r .0) m j (r .1) (r .2) v b s (r .3) ∙ sym (unit-at xs (r .0) (r .1) j (r .2) (once k (pieces xs) ps .1) (r .3)))
           (λ l. let b = ltb-false j k l in
           h .rest i m j v (omega arith) s ∙ sym (unitOf-none j xs (λ q. let o = once-below k (pieces xs) ps j q in omega arith)))
           (either (ltb j k))
@@ -344,15 +317,13 @@ module _ (free : ℕ → Bool) (xs : List Step) where
       words-tested : (onceEach p (words xs) && mapsFit (planMap xs) free (wordFor xs) xs) ≡ true
       unfolding wordIn
       words-tested =
-          let d = collect-distinct wordIn word-once xs (λ i j n x y s t m q.
+          let d = collect-distinct wordIn (λ x. few x .2) xs (λ i j n x y s t m q.
           let a = word-in x n m in
           let b = word-in y n q in
           h .once i j (a .0) (b .0) n (a .1) (b .1) (subst (At xs i) (a .2) s) (subst (At xs j) (b .2) t)) in
           and-intro (onceEach p (words xs)) (mapsFit (planMap xs) free (wordFor xs) xs)
           (once-tested p (words xs) d
-          (λ j m. let r = collect-at wordIn xs j m in
-          let a = word-in (r .1) j (r .3) in
-          h .no-other (r .0) (a .0) j (a .1) (subst (At xs (r .0)) (a .2) (r .2)))
+          (λ j m. let r = word-at xs j m in h .no-other (r .0) (r .1) j (r .2) (r .3))
           (λ j l. let r = h .each j l in collect-in wordIn xs (r .0) (Map (r .1) j (r .2)) j (r .3) (here j)))
           (every-intro (mapFits (planMap xs) free (wordFor xs)) xs fits)
 
@@ -399,8 +370,7 @@ module _ (xs : List Step) where
 
     some-link : n ≡ 1 → (i : ℕ) × (v : Value) × At xs i (Link c v)
     some-link e =
-        let first = all-first (λ y. member y (links xs)) 0 (links xs) (all-intro (λ y. member y (links xs)) (links xs) (λ y q. q)) (let l = parts .0 in omega arith) in
-        let r = collect-at linkIn xs (firstOr 0 (links xs)) first in
+        let r = collect-at linkIn xs (firstOr 0 (links xs)) (first-member 0 (links xs) (let l = parts .0 in omega arith)) in
         let d = link-in (r .1) (firstOr 0 (links xs)) (r .3) in
         let t : At xs (r .0) (Link (firstOr 0 (links xs)) (d .0)) = subst (At xs (r .0)) (d .1) (r .2) in
         (r .0, d .0, subst (λ (a : ℕ). At xs (r .0) (Link a (d .0))) (sym (link-told (r .0) (firstOr 0 (links xs)) (d .0) t .0)) t)
@@ -415,7 +385,7 @@ module _ (xs : List Step) where
   links-tested : (c w : ℕ) → OneLink c xs → ((i a : ℕ) (v : Value) → At xs i (Link a v) → wordOf v ≡ w) → linksAre 1 c w xs ≡ true
   unfolding linksAre linkIn linkedIn
   links-tested c w o h =
-      let few = collect-few linkIn link-few xs (λ i j x y s t p q.
+      let few = collect-few linkIn (λ x. few x .3) xs (λ i j x y s t p q.
       let a = link-some x p in
       let b = link-some y q in
       o .alone i j (a .0) (b .0) (a .1) (b .1) (subst (At xs i) (a .2) s) (subst (At xs j) (b .2) t)) in
@@ -455,9 +425,8 @@ module _ (xs : List Step) where
     unfolding rule3
     has-map c size h =
         let a = and-left (onceEach p (words xs)) (mapsFit (planMap xs) free (wordFor xs) xs) h in
-        let r = collect-at wordIn xs 0 (once-there p (words xs) a 0 (omega arith)) in
-        let d = word-in (r .1) 0 (r .3) in
-        on-plan-map xs (r .0) (d .0) 0 (d .1) (subst (At xs (r .0)) (d .2) (r .2))
+        let r = word-at xs 0 (once-there p (words xs) a 0 (omega arith)) in
+        on-plan-map xs (r .0) (r .1) 0 (r .2) (r .3)
 
     all-on-map : (c size : ℕ) → rule3 p free (Write c size) xs ≡ true → (i m j : ℕ) (v : Value) → At xs i (Map m j v) → planMap xs ≡ m
     unfolding rule3 mapFits

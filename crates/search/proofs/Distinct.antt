@@ -1,5 +1,5 @@
 -- Lists with no number twice, and two lists with no number in common.
-use Prim.Native.Nat.{ℕ, zero, suc, _<_}
+use Prim.Native.Nat.{ℕ, zero, suc, _≤_, _<_}
 use native.Mathlib.Omega.{arith}
 use native.Mathlib.Nat.{not-suc-le-zero}
 use mathlib.Core.Path.{_≡_, refl, sym, ap, _∙_}
@@ -10,8 +10,8 @@ use lib.ListN.{length, getD, take}
 use lib.Dec.{eqb, ltb}
 use borrow.Author.Tests.{ltb-true, ltb-false, not-true}
 use Rattle.search.specs.Search.{from, any, keep, member, distinct, disjoint}
-use Rattle.search.proofs.Bools.{contradict, and-left, and-right, and-intro, or-none, not-of-false, is-false, either, eqb-comm}
-use Rattle.search.proofs.Members.{member-head, member-tail, member-place, member-getD, member-take, member-append, all-at, all-intro, all-not, any-ext, any-swap}
+use Rattle.search.proofs.Bools.{contradict, and-left, and-right, and-intro, or-none, or-false-right, not-of-false, is-false, either, eqb-comm}
+use Rattle.search.proofs.Members.{member-nil, member-cons, member-head, member-tail, member-place, member-getD, member-take, member-append, all-at, all-intro, all-not, any-ext, any-swap}
 use Rattle.search.proofs.Ranges.{member-from}
 use Rattle.search.proofs.Kept.{keep-nil, keep-cons-true, keep-cons-false, member-keep}
 
@@ -98,6 +98,25 @@ distinct-append (x ∷ xs) ys d e a =
     distinct-cons x (xs ++ ys)
     (member-append x xs ys ∙ or-none (member x xs) (member x ys) (distinct-head x xs d) (disjoint-at (x ∷ xs) ys a x (member-head x x xs refl)))
     (distinct-append xs ys (distinct-tail x xs d) e (disjoint-intro xs ys (λ u m. disjoint-at (x ∷ xs) ys a u (member-tail u x xs m))))
+
+-- and back: the second list has no number twice, and none of the first
+pub distinct-later : (xs ys : List ℕ) → distinct (xs ++ ys) ≡ true → distinct ys ≡ true
+distinct-later [] ys d = d
+distinct-later (x ∷ xs) ys d = distinct-later xs ys (distinct-tail x (xs ++ ys) d)
+
+pub distinct-apart : (n : ℕ) (xs ys : List ℕ) → distinct (xs ++ ys) ≡ true → member n xs ≡ true → member n ys ≡ false
+distinct-apart n [] ys d p = contradict p (member-nil n)
+distinct-apart n (x ∷ xs) ys d p =
+    ⊎-elim
+    (λ e. or-false-right (member n xs) (member n ys) (sym (member-append n xs ys) ∙ ap (λ (z : ℕ). member z (xs ++ ys)) e ∙ distinct-head x (xs ++ ys) d))
+    (λ m. distinct-apart n xs ys (distinct-tail x (xs ++ ys) d) m)
+    (member-cons n x xs p)
+
+-- a list of at most one number
+pub distinct-few : (xs : List ℕ) → length xs ≤ 1 → distinct xs ≡ true
+distinct-few [] h = distinct-nil
+distinct-few (x ∷ []) h = distinct-cons x [] (member-nil x) distinct-nil
+distinct-few (x ∷ y ∷ xs) h = absurd (omega arith)
 
 member-comm : (xs ys : List ℕ) → any (λ x. member x ys) xs ≡ any (λ y. member y xs) ys
 unfolding member
