@@ -1,0 +1,76 @@
+// The work of the programs: their arguments, their files, and what they print. Each program is one call of `commands`.
+use layout::Refusal;
+use steps::Request;
+
+mod arguments;
+pub mod commands;
+mod decimals;
+mod fractions;
+mod listing;
+mod reading;
+mod saying;
+
+// The longest image that the limits allow. A longer file is no image, whatever is in it.
+pub const MAX_IMAGE_BYTES: usize = 38944;
+
+// One step more than a plan may have. A plan that does not fit breaks rule 1 by its length, and so does what was read of it: the answer is the same.
+pub const PLAN_ROOM: usize = 1040;
+
+pub const PLAN_ROOM_STEPS: u64 = 65;
+
+// The longest plan that the planner writes: k + P + 3 steps, with k and P at most 16.
+pub const MAX_OWN_PLAN_BYTES: usize = 560;
+
+// Longer than any argument that Linux hands a program, so that a number may have as many digits as it likes.
+pub const ARGUMENT_ROOM: usize = 131072;
+
+// The greatest number, past every limit: what a number past it is read as.
+pub const MAX_NUMBER: u64 = 18446744073709551615;
+
+// An argument that is to be a number, a fraction, or with those after it a request or an alarm level.
+pub enum Number {
+    Value(u64),
+    Malformed,
+}
+
+pub enum Fraction {
+    Value(f64),
+    Malformed,
+}
+
+pub enum Asked {
+    For(Request),
+    Malformed,
+}
+
+// How a file was read: to its end, as far as there was room, or not.
+pub enum Status {
+    Whole,
+    Long,
+    Unreadable,
+}
+
+// What was read of a file: how, and how many bytes.
+pub struct Content {
+    pub status: Status,
+    pub length: usize,
+}
+
+// The word of a program's last line where it has an answer.
+pub enum Word {
+    Sound,
+    Formatted,
+    Planned,
+    Accepted,
+    Carried,
+    Reported,
+    Sounds,
+    Silent,
+}
+
+// How a program's work ended. Where it is `Unreadable`, standard error has been told why.
+pub enum Outcome {
+    Answered(Word),
+    Refused(Refusal),
+    Unreadable,
+}
