@@ -1,2 +1,5 @@
 pub mod Decimals
 pub mod Fractions
+pub mod LongPlans
+pub mod Outcomes
+pub mod Ratios

@@ -3,10 +3,12 @@ use crate::ARGUMENT_ROOM;
 use crate::Asked;
 use crate::Fraction;
 use crate::Number;
+use crate::Threshold;
 use crate::decimals;
 use crate::fractions;
 use crate::saying::complain;
 use check::same;
+use report::Level;
 use steps::Request;
 ghost use Prim.Native.Nat.{_≤_};
 
@@ -119,4 +121,24 @@ pub(crate) fn request(i: usize, usage: &[u8]) -> Asked
     }
     complain(b"usage", usage);
     Asked::Malformed
+}
+
+// The alarm level that arguments 2 and 3 say: `units COUNT` or `fraction DECIMAL`.
+pub(crate) fn level(usage: &[u8]) -> Threshold {
+    if is_word(2, b"units") {
+        let n = number(3);
+        return match n {
+            Number::Value(count) => Threshold::At(Level::Count(count)),
+            Number::Malformed => Threshold::Malformed,
+        };
+    }
+    if is_word(2, b"fraction") {
+        let x = fraction(3);
+        return match x {
+            Fraction::Value(value) => Threshold::At(Level::Fraction(value)),
+            Fraction::Malformed => Threshold::Malformed,
+        };
+    }
+    complain(b"usage", usage);
+    Threshold::Malformed
 }

@@ -1,19 +1,26 @@
 // The work of the programs: their arguments, their files, and what they print. Each program is one call of `commands`.
 use layout::Refusal;
+use report::Level;
 use steps::Request;
 
 mod arguments;
+mod carrying;
 pub mod commands;
 mod decimals;
+mod formatting;
 mod fractions;
 mod listing;
+mod making;
+mod planning;
 mod reading;
 mod saying;
+mod space;
 
 // The longest image that the limits allow. A longer file is no image, whatever is in it.
 pub const MAX_IMAGE_BYTES: usize = 38944;
 
-// One step more than a plan may have. A plan that does not fit breaks rule 1 by its length, and so does what was read of it: the answer is the same.
+// Of a plan file as many bytes are read as 65 steps have, one step more than a plan may. A longer plan breaks rule 1 by its length, and so do its first 65
+// steps: the answer is the same. Only how many steps a plan has must then be asked of the file (`asked_of`).
 pub const PLAN_ROOM: usize = 1040;
 
 pub const PLAN_ROOM_STEPS: u64 = 65;
@@ -40,6 +47,11 @@ pub enum Fraction {
 
 pub enum Asked {
     For(Request),
+    Malformed,
+}
+
+pub enum Threshold {
+    At(Level),
     Malformed,
 }
 

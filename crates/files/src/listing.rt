@@ -4,6 +4,7 @@ use crate::Outcome;
 use crate::Status;
 use crate::Word;
 use crate::reading::read_file;
+use crate::saying::labelled;
 use crate::saying::number;
 use crate::saying::text;
 use access::parts::held;
@@ -20,12 +21,6 @@ ghost use Rattle.layout.specs.Shaped.{Shaped};
 
 // The bytes of a word of the image.
 const WORD_BYTES: usize = 8;
-
-// A label and its number.
-fn labelled(label: &[u8], n: u64) {
-    text(label);
-    number(n);
-}
 
 fn volume_line(g: Shape) {
     labelled(b"volume chunks ", g.c as u64);

@@ -1,7 +1,9 @@
 // Files that arguments name, read into lent room.
 use crate::Content;
+use crate::Number;
 use crate::Status;
 use crate::saying::complain;
+use libc::SEEK_END;
 ghost use Rattle.io.specs.Counts.{Counts};
 
 // How a file was read, by what a further read answers: its end, a byte more, or a failure. `full` is whether the room is full; where it is not and a byte
@@ -63,4 +65,31 @@ pub(crate) fn read_file(i: usize, room: &mut [u8]) -> Content
         };
     }
     read_named(&name[..length], room)
+}
+
+// How many bytes the file of a name has.
+fn named_length(name: &[u8]) -> Number {
+    let fd = os::open_read(name);
+    if fd < 0 {
+        os::fail(name);
+        return Number::Malformed;
+    }
+    let end = libc::lseek(fd, 0, SEEK_END);
+    libc::close(fd);
+    if end < 0 {
+        complain(name, b"its length cannot be told");
+        return Number::Malformed;
+    }
+    Number::Value(end as u64)
+}
+
+// How many bytes the file has that argument i names. A pipe cannot tell.
+pub(crate) fn file_length(i: usize) -> Number {
+    let mut name = io::buffer();
+    let length = os::arg(i, &mut name);
+    if os::errno() != 0 {
+        os::fail(b"file name");
+        return Number::Malformed;
+    }
+    named_length(&name[..length])
 }

@@ -14,6 +14,12 @@ pub(crate) fn number(n: u64) {
     io::print_decimal(STDOUT_FILENO, n);
 }
 
+// A label and its number.
+pub(crate) fn labelled(label: &[u8], n: u64) {
+    text(label);
+    number(n);
+}
+
 // The same on standard error, which is for reasons.
 fn reason(bytes: &[u8]) {
     io::write_all(STDERR_FILENO, bytes);

@@ -1,0 +1,4 @@
+// Says whether a plan keeps the rules: `check_plan IMAGE PLANFILE write CHUNK SIZE | discard CHUNK`.
+fn main() {
+    files::commands::check_plan();
+}

@@ -1,0 +1,117 @@
+// The space report and the alarm.
+use crate::MAX_IMAGE_BYTES;
+use crate::Outcome;
+use crate::Status;
+use crate::Word;
+use crate::reading::read_file;
+use crate::saying::labelled;
+use crate::saying::number;
+use crate::saying::text;
+use image::Verdict;
+use layout::Refusal;
+use report::Alarm;
+use report::Level;
+use report::Report;
+use report::alarms::alarm;
+use report::reports::report;
+ghost use mathlib.Core.Path.{_≡_};
+ghost use Rattle.report.specs.Alarms.{alarmAnswer};
+ghost use Rattle.files.specs.Outcomes.{alarmOutcome};
+ghost use Rattle.files.specs.Ratios.{tenThousandths};
+
+// A count's share of itself and a rest, in ten-thousandths, to the nearest one, a half upwards. The report's own ratios are f64, and exact to 53 bits; to
+// print one takes a further product, which rounds again and falls below the half in one of forty halves. So the digits come from the exact counts, of which
+// the ratios are the quotients: N is held and free units, C·P is saved and held ones.
+fn ten_thousandths(count: u32, rest: u32) -> u64
+    ensures { λ r. ⌜ r ≡ tenThousandths count rest ⌝ }
+{
+    let all = count as u64 + rest as u64;
+    if all == 0 {
+        return 0;
+    }
+    (20000 * count as u64 + all) / (2 * all)
+}
+
+// Ten-thousandths with their point.
+fn ratio(t: u64) {
+    number(t / 10000);
+    text(b".");
+    number(t / 1000 % 10);
+    number(t / 100 % 10);
+    number(t / 10 % 10);
+    number(t % 10);
+}
+
+fn count_line(label: &[u8], n: u32) {
+    labelled(label, n as u64);
+    text(b"\n");
+}
+
+fn ratio_line(label: &[u8], count: u32, rest: u32) {
+    text(label);
+    ratio(ten_thousandths(count, rest));
+    text(b"\n");
+}
+
+fn report_lines(r: Report) {
+    let mapped = r.mapped;
+    let held = r.held;
+    let free = r.free;
+    let saved = r.saved;
+    count_line(b"mapped ", mapped);
+    count_line(b"held ", held);
+    count_line(b"free ", free);
+    count_line(b"saved ", saved);
+    ratio_line(b"held-ratio ", held, free);
+    ratio_line(b"saved-ratio ", saved, held);
+}
+
+fn report_image(image: &[u8]) -> Outcome {
+    let answer = report(image);
+    let v = answer.verdict;
+    match v {
+        Verdict::Passed => {
+            let r = answer.report;
+            report_lines(r);
+            Outcome::Answered(Word::Reported)
+        }
+        Verdict::Refused(r) => Outcome::Refused(r),
+    }
+}
+
+// Reports on the image that argument 1 names.
+pub(crate) fn report_file() -> Outcome {
+    let mut image = [0u8; MAX_IMAGE_BYTES];
+    let content = read_file(1, &mut image);
+    let status = content.status;
+    let length = content.length;
+    match status {
+        Status::Whole => report_image(&image[..length]),
+        Status::Long => Outcome::Refused(Refusal::Geometry),
+        Status::Unreadable => Outcome::Unreadable,
+    }
+}
+
+fn alarm_image(image: &[u8], level: Level) -> Outcome
+    ensures { λ r. ⌜ r ≡ alarmOutcome (alarmAnswer (now (image .entry)) level) ⌝ }
+{
+    let answer = alarm(image, level);
+    match answer {
+        Alarm::Sounds => Outcome::Answered(Word::Sounds),
+        Alarm::Silent => Outcome::Answered(Word::Silent),
+        Alarm::Refused(r) => Outcome::Refused(r),
+    }
+}
+
+// Whether the alarm of the image that argument 1 names sounds at a level.
+pub(crate) fn alarm_file(level: Level) -> Outcome {
+    let mut image = [0u8; MAX_IMAGE_BYTES];
+    let content = read_file(1, &mut image);
+    let status = content.status;
+    let length = content.length;
+    match status {
+        Status::Whole => alarm_image(&image[..length], level),
+        Status::Long => Outcome::Refused(Refusal::Geometry),
+        Status::Unreadable => Outcome::Unreadable,
+    }
+}
