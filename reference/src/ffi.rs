@@ -1,0 +1,245 @@
+//! The C interface of the proved library, edition 1, and a thin safe wrapper
+//! for each of its functions.
+//!
+//! A slice goes over as its pointer and its length. The wrappers answer the
+//! library's structs as they come, for tests to compare field by field.
+
+/// `sumbilak_answer`: number 0 is an answer, with `value` and `extent` as each
+/// function says; otherwise number and place (`second` for refusal 6).
+#[repr(C)]
+#[derive(Clone, Copy, Debug, PartialEq, Eq)]
+pub struct CAnswer {
+    pub number: u64,
+    pub place: u64,
+    pub second: u64,
+    pub value: u64,
+    pub extent: u64,
+}
+
+/// `sumbilak_report_answer`.
+#[repr(C)]
+#[derive(Clone, Copy, Debug, PartialEq)]
+pub struct CReport {
+    pub number: u64,
+    pub place: u64,
+    pub second: u64,
+    pub mapped: u64,
+    pub held: u64,
+    pub free: u64,
+    pub saved: u64,
+    pub held_ratio: f64,
+    pub saved_ratio: f64,
+}
+
+/// Words that `load` writes: P, C, M, N, 72 unit words, 5 map words.
+pub const LOAD_WORDS: usize = 81;
+
+mod sys {
+    use super::{CAnswer, CReport};
+
+    extern "C" {
+        pub fn sumbilak_format(
+            image: *mut u8,
+            len: usize,
+            p: u64,
+            c: u64,
+            m: u64,
+            n: u64,
+        ) -> CAnswer;
+        pub fn sumbilak_load(
+            image: *const u8,
+            len: usize,
+            out: *mut u64,
+            out_len: usize,
+        ) -> CAnswer;
+        pub fn sumbilak_split(
+            image: *const u8,
+            len: usize,
+            offset: u64,
+            length: u64,
+            out: *mut u8,
+            out_len: usize,
+        ) -> CAnswer;
+        pub fn sumbilak_access(
+            image: *const u8,
+            len: usize,
+            write: bool,
+            offset: u64,
+            length: u64,
+        ) -> CAnswer;
+        pub fn sumbilak_held(image: *const u8, len: usize, chunk: u64) -> CAnswer;
+        pub fn sumbilak_plan_write(
+            image: *const u8,
+            len: usize,
+            chunk: u64,
+            size: u64,
+            out: *mut u8,
+            out_len: usize,
+        ) -> CAnswer;
+        pub fn sumbilak_plan_discard(
+            image: *const u8,
+            len: usize,
+            chunk: u64,
+            out: *mut u8,
+            out_len: usize,
+        ) -> CAnswer;
+        pub fn sumbilak_check_write(
+            image: *const u8,
+            len: usize,
+            chunk: u64,
+            size: u64,
+            plan: *const u8,
+            plan_len: usize,
+        ) -> CAnswer;
+        pub fn sumbilak_check_discard(
+            image: *const u8,
+            len: usize,
+            chunk: u64,
+            plan: *const u8,
+            plan_len: usize,
+        ) -> CAnswer;
+        pub fn sumbilak_carry_write(
+            image: *mut u8,
+            len: usize,
+            chunk: u64,
+            size: u64,
+            plan: *const u8,
+            plan_len: usize,
+            n: u64,
+        ) -> CAnswer;
+        pub fn sumbilak_carry_discard(
+            image: *mut u8,
+            len: usize,
+            chunk: u64,
+            plan: *const u8,
+            plan_len: usize,
+            n: u64,
+        ) -> CAnswer;
+        pub fn sumbilak_alarm_count(image: *const u8, len: usize, units: u64) -> CAnswer;
+        pub fn sumbilak_alarm_fraction(image: *const u8, len: usize, fraction: f64) -> CAnswer;
+        pub fn sumbilak_report(image: *const u8, len: usize) -> CReport;
+    }
+}
+
+// SAFETY, for every call below: pointer and length are those of one live
+// slice, shared for the inputs and exclusive for what is written, and by its
+// contract the library touches no byte outside the slices that it is lent.
+
+pub fn format(image: &mut [u8], p: u64, c: u64, m: u64, n: u64) -> CAnswer {
+    unsafe { sys::sumbilak_format(image.as_mut_ptr(), image.len(), p, c, m, n) }
+}
+
+/// `out` is counted in words.
+pub fn load(image: &[u8], out: &mut [u64]) -> CAnswer {
+    unsafe { sys::sumbilak_load(image.as_ptr(), image.len(), out.as_mut_ptr(), out.len()) }
+}
+
+pub fn split(image: &[u8], offset: u64, length: u64, out: &mut [u8]) -> CAnswer {
+    unsafe {
+        sys::sumbilak_split(
+            image.as_ptr(),
+            image.len(),
+            offset,
+            length,
+            out.as_mut_ptr(),
+            out.len(),
+        )
+    }
+}
+
+pub fn access(image: &[u8], write: bool, offset: u64, length: u64) -> CAnswer {
+    unsafe { sys::sumbilak_access(image.as_ptr(), image.len(), write, offset, length) }
+}
+
+pub fn held(image: &[u8], chunk: u64) -> CAnswer {
+    unsafe { sys::sumbilak_held(image.as_ptr(), image.len(), chunk) }
+}
+
+pub fn plan_write(image: &[u8], chunk: u64, size: u64, out: &mut [u8]) -> CAnswer {
+    unsafe {
+        sys::sumbilak_plan_write(
+            image.as_ptr(),
+            image.len(),
+            chunk,
+            size,
+            out.as_mut_ptr(),
+            out.len(),
+        )
+    }
+}
+
+pub fn plan_discard(image: &[u8], chunk: u64, out: &mut [u8]) -> CAnswer {
+    unsafe {
+        sys::sumbilak_plan_discard(
+            image.as_ptr(),
+            image.len(),
+            chunk,
+            out.as_mut_ptr(),
+            out.len(),
+        )
+    }
+}
+
+pub fn check_write(image: &[u8], chunk: u64, size: u64, plan: &[u8]) -> CAnswer {
+    unsafe {
+        sys::sumbilak_check_write(
+            image.as_ptr(),
+            image.len(),
+            chunk,
+            size,
+            plan.as_ptr(),
+            plan.len(),
+        )
+    }
+}
+
+pub fn check_discard(image: &[u8], chunk: u64, plan: &[u8]) -> CAnswer {
+    unsafe {
+        sys::sumbilak_check_discard(
+            image.as_ptr(),
+            image.len(),
+            chunk,
+            plan.as_ptr(),
+            plan.len(),
+        )
+    }
+}
+
+pub fn carry_write(image: &mut [u8], chunk: u64, size: u64, plan: &[u8], n: u64) -> CAnswer {
+    unsafe {
+        sys::sumbilak_carry_write(
+            image.as_mut_ptr(),
+            image.len(),
+            chunk,
+            size,
+            plan.as_ptr(),
+            plan.len(),
+            n,
+        )
+    }
+}
+
+pub fn carry_discard(image: &mut [u8], chunk: u64, plan: &[u8], n: u64) -> CAnswer {
+    unsafe {
+        sys::sumbilak_carry_discard(
+            image.as_mut_ptr(),
+            image.len(),
+            chunk,
+            plan.as_ptr(),
+            plan.len(),
+            n,
+        )
+    }
+}
+
+pub fn alarm_count(image: &[u8], units: u64) -> CAnswer {
+    unsafe { sys::sumbilak_alarm_count(image.as_ptr(), image.len(), units) }
+}
+
+pub fn alarm_fraction(image: &[u8], fraction: f64) -> CAnswer {
+    unsafe { sys::sumbilak_alarm_fraction(image.as_ptr(), image.len(), fraction) }
+}
+
+pub fn report(image: &[u8]) -> CReport {
+    unsafe { sys::sumbilak_report(image.as_ptr(), image.len()) }
+}

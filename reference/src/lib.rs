@@ -1,0 +1,15 @@
+//! A second, independent implementation of the compressed-volume metadata
+//! format, written from its papers alone, and what is needed to hold the
+//! proved library to it.
+//!
+//! * [`model`] is the implementation.
+//! * [`ffi`] is the proved library's C interface.
+//! * [`rng`] and [`inputs`] make reproducible test inputs.
+//!
+//! "01" in the comments is the paper with the exact rules, "Decision n" an
+//! entry of the list of how its open places are read.
+
+pub mod ffi;
+pub mod inputs;
+pub mod model;
+pub mod rng;

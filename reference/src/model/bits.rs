@@ -1,0 +1,100 @@
+//! Fixed-size bit sets, one bit a unit or map.
+
+/// "bit u mod 64 of word u/64 is 1 if unit u is free, all else 0" (01).
+#[derive(Clone, Debug, PartialEq, Eq)]
+pub(crate) struct BitSet<const WORDS: usize> {
+    words: [u64; WORDS],
+}
+
+impl<const WORDS: usize> BitSet<WORDS> {
+    pub fn empty() -> Self {
+        BitSet { words: [0; WORDS] }
+    }
+
+    /// The set of all numbers below `count`; the bits from there on are 0
+    /// (Decision 7).
+    pub fn first(count: usize) -> Self {
+        let mut set = BitSet::empty();
+        set.words[..count / 64].fill(u64::MAX);
+        if !count.is_multiple_of(64) {
+            set.words[count / 64] = (1 << (count % 64)) - 1;
+        }
+        set
+    }
+
+    pub fn contains(&self, bit: usize) -> bool {
+        self.words[bit / 64] >> (bit % 64) & 1 != 0
+    }
+
+    pub fn insert(&mut self, bit: usize) {
+        self.words[bit / 64] |= 1 << (bit % 64);
+    }
+
+    /// Takes a number out and says whether it was there.
+    pub fn remove(&mut self, bit: usize) -> bool {
+        let word = &mut self.words[bit / 64];
+        let mask = 1 << (bit % 64);
+        let was_there = *word & mask != 0;
+        *word &= !mask;
+        was_there
+    }
+
+    pub fn count(&self) -> u64 {
+        self.words
+            .iter()
+            .map(|word| u64::from(word.count_ones()))
+            .sum()
+    }
+
+    /// The members in rising order.
+    pub fn iter(&self) -> impl Iterator<Item = usize> + '_ {
+        let words = self.words.iter().enumerate();
+        words.flat_map(|(at, &word)| Ones(word).map(move |bit| 64 * at + bit))
+    }
+
+    pub fn into_words(self) -> [u64; WORDS] {
+        self.words
+    }
+}
+
+/// The places of a word's one-bits, rising.
+struct Ones(u64);
+
+impl Iterator for Ones {
+    type Item = usize;
+
+    fn next(&mut self) -> Option<usize> {
+        if self.0 == 0 {
+            return None;
+        }
+        let lowest = self.0.trailing_zeros() as usize;
+        self.0 &= self.0 - 1;
+        Some(lowest)
+    }
+}
+
+#[cfg(test)]
+mod tests {
+    use super::*;
+
+    #[test]
+    fn first_counts_and_iterates() {
+        for count in [0, 1, 63, 64, 65, 127, 128, 191, 192] {
+            let set = BitSet::<3>::first(count);
+            assert_eq!(set.count(), count as u64);
+            assert!(set.iter().eq(0..count));
+            assert!((0..192).all(|bit| set.contains(bit) == (bit < count)));
+        }
+    }
+
+    #[test]
+    fn remove_tells_what_was_there() {
+        let mut set = BitSet::<2>::first(70);
+        assert!(set.remove(65));
+        assert!(!set.remove(65));
+        assert!(!set.contains(65));
+        set.insert(65);
+        assert!(set.contains(65));
+        assert!(!set.remove(70));
+    }
+}

@@ -1,0 +1,201 @@
+//! The plan checker.
+
+use super::geometry::{Geometry, MAX_UNITS_PER_CHUNK};
+use super::image::Volume;
+use super::plan::{units_of, Step, Value, STEP};
+use super::refusals::{BAD_PLAN, RANGE};
+use super::{Answer, Refusal};
+
+/// "Whole steps, at most 64" (01).
+pub const MAX_STEPS: usize = 64;
+
+const fn broken(rule: u64) -> Refusal {
+    Refusal::at(BAD_PLAN, rule)
+}
+
+/// The steps of a plan, each with rule 1's verdict: "A plan is read one step
+/// at a time from the lent bytes." The length's part of rule 1, "Whole steps,
+/// at most 64", is settled first (01).
+fn steps<'a>(
+    plan: &'a [u8],
+    geometry: &'a Geometry,
+) -> Answer<impl Iterator<Item = Answer<Step>> + 'a> {
+    let (whole, rest) = plan.as_chunks::<STEP>();
+    if !rest.is_empty() || whole.len() > MAX_STEPS {
+        return Err(broken(1));
+    }
+    let decode = |bytes| Step::decode(bytes, geometry).ok_or(broken(1));
+    Ok(whole.iter().map(decode))
+}
+
+/// Rules 1 to 5 for a write. One pass gathers what rules 2 to 5 ask for; a
+/// step that breaks rule 1 ends it at once, as no lower rule is left. After
+/// the pass the rules are judged in order, so the lowest broken one is named.
+fn write_rules(volume: &mut Volume, chunk: usize, k: usize, plan: &[u8]) -> Answer<()> {
+    let geometry = volume.geometry;
+    let p = geometry.p;
+
+    let mut units = [None; MAX_UNITS_PER_CHUNK];
+    let mut pieces_good = true;
+    let mut words = [None; MAX_UNITS_PER_CHUNK];
+    let mut map = None;
+    let mut words_good = true;
+    let mut link = None;
+    let mut links = 0;
+    // DATA or MAP steps since the last FENCE.
+    let mut unfenced = false;
+    let mut order_good = true;
+    let mut fence_last = false;
+
+    for step in steps(plan, &geometry)? {
+        fence_last = false;
+        match step? {
+            Step::Data { unit, piece } => {
+                // Taking the unit out of the free set makes a second use of it
+                // count as not free.
+                let free = volume.free_units.remove(unit as usize);
+                let known = units[piece as usize].replace(unit);
+                pieces_good &= free && known.is_none() && (piece as usize) < k;
+                order_good &= links == 0;
+                unfenced = true;
+            }
+            Step::Map {
+                map: target,
+                word,
+                value,
+            } => {
+                let known = words[word as usize].replace(value);
+                words_good &= known.is_none() && *map.get_or_insert(target) == target;
+                order_good &= links == 0;
+                unfenced = true;
+            }
+            Step::Link { chunk, value } => {
+                link = Some((chunk as usize, value));
+                links += 1;
+                order_good &= !unfenced;
+            }
+            Step::Fence => {
+                unfenced = false;
+                fence_last = true;
+            }
+        }
+    }
+
+    // Rule 2: "pieces 0 to k-1 once each, no other, on different free units."
+    if !pieces_good || units[..k].contains(&None) {
+        return Err(broken(2));
+    }
+    // Rule 3: "all MAP steps on one free map, each word 0 to P-1 once; word j
+    // is piece j's unit for j below k, else X." With rule 2 kept, exactly the
+    // first k pieces have a unit.
+    let Some(map) = map.filter(|&map| words_good && volume.free_maps.contains(map as usize)) else {
+        return Err(broken(3));
+    };
+    let expected = |unit: &Option<u32>| Some(unit.map_or(Value::Absent, Value::Number));
+    if !words[..p]
+        .iter()
+        .copied()
+        .eq(units[..p].iter().map(expected))
+    {
+        return Err(broken(3));
+    }
+    // Rule 4: "one LINK, this chunk, that map."
+    if links != 1 || link != Some((chunk, Value::Number(map))) {
+        return Err(broken(4));
+    }
+    // Rule 5: "every DATA and MAP precedes LINK, with a FENCE after the last
+    // of them and before LINK; the last step is FENCE."
+    if !order_good || !fence_last {
+        return Err(broken(5));
+    }
+    Ok(())
+}
+
+/// Rules 1 to 5 for a discard, in the same way.
+fn discard_rules(volume: &Volume, chunk: usize, plan: &[u8]) -> Answer<()> {
+    let mut data = false;
+    let mut maps = false;
+    let mut links = 0;
+    let mut link = None;
+    let mut last = None;
+    for step in steps(plan, &volume.geometry)? {
+        let step = step?;
+        match step {
+            Step::Data { .. } => data = true,
+            Step::Map { .. } => maps = true,
+            Step::Link { chunk, value } => {
+                links += 1;
+                link = Some((chunk as usize, value));
+            }
+            Step::Fence => {}
+        }
+        last = Some(step);
+    }
+
+    // Rule 2: "Discard: no DATA." Rule 3: "Discard: no MAP."
+    if data {
+        return Err(broken(2));
+    }
+    if maps {
+        return Err(broken(3));
+    }
+    // Rule 4: "Discard of a mapped chunk: one LINK, this chunk, X. Of an
+    // unmapped one: no LINK." Rule 5: "Discard of a mapped chunk: the last
+    // step is FENCE. Of an unmapped one: no steps."
+    let mapped = volume.link(chunk).is_some();
+    let (link_good, end_good) = if mapped {
+        (
+            links == 1 && link == Some((chunk, Value::Absent)),
+            last == Some(Step::Fence),
+        )
+    } else {
+        (links == 0, last.is_none())
+    };
+    if !link_good {
+        return Err(broken(4));
+    }
+    if !end_good {
+        return Err(broken(5));
+    }
+    Ok(())
+}
+
+/// What checking and carrying out share: the image's rows, row 7 for the chunk
+/// and for the step count, row 8, row 11, lowest number first. Carrying out
+/// "7 for the chunk or for n above the whole steps, 8, then 11" (Decision 11);
+/// the checker lends no step count and passes 0, which is never too many.
+pub(crate) fn judge(
+    image: &[u8],
+    chunk: u64,
+    size: Option<u64>,
+    plan: &[u8],
+    n: u64,
+) -> Answer<Geometry> {
+    let mut volume = Volume::open(image)?;
+    let chunk = volume.chunk(chunk)?;
+    // "A plan's whole steps are its length / 16 rounded down, not capped at
+    // 64." (Decision 11)
+    if n > (plan.len() / STEP) as u64 {
+        return Err(Refusal::plain(RANGE));
+    }
+    match size {
+        Some(size) => {
+            let k = units_of(&volume.geometry, size)?;
+            write_rules(&mut volume, chunk, k, plan)?;
+        }
+        None => discard_rules(&volume, chunk, plan)?,
+    }
+    Ok(volume.geometry)
+}
+
+/// The checker for a write. "A request is good if its chunk is below C and a
+/// write's size is 1 to P·4,096", else 7 or 8 (Decision 12); "Refusal 9 isn't
+/// given here" (01).
+pub fn check_write(image: &[u8], chunk: u64, size: u64, plan: &[u8]) -> Answer<()> {
+    judge(image, chunk, Some(size), plan, 0).map(|_| ())
+}
+
+/// The checker for a discard.
+pub fn check_discard(image: &[u8], chunk: u64, plan: &[u8]) -> Answer<()> {
+    judge(image, chunk, None, plan, 0).map(|_| ())
+}

@@ -1,0 +1,158 @@
+//! Holds the proved library to the model, entry point by entry point.
+//!
+//! Every case is run by both; answers, images, outputs and the bytes around
+//! them are compared. The rows of 01's table are also judged one by one, which
+//! counts the refusals that compete and gives a second opinion on the model.
+//!
+//! First come generated inputs for each entry point, then sweeps that go
+//! through a small scope completely. `SUMBILAK_CASES` raises the number of
+//! generated inputs for each entry point, `SUMBILAK_SEED` changes the seed,
+//! and words on the command line pick entry points and sweeps by name.
+
+mod common;
+
+use std::env;
+use std::io::{self, Write};
+use std::process::ExitCode;
+use std::time::Instant;
+
+use common::cases::{self, Case, Entry, Outcome};
+use common::coverage::{self, Coverage};
+use common::rows::{self, Verdict};
+use common::{generate, sweeps};
+use sumbilak_reference::inputs::{self, Base};
+use sumbilak_reference::rng::{mix, Rng};
+
+/// Generated inputs for each entry point.
+const CASES: u64 = 50_000;
+const SEED: u64 = 0x524D_4150_0001;
+/// Sound volumes that the cases are made from.
+const POOL: usize = 500;
+/// Mismatches of one entry point that are shown in full.
+const SHOWN: u64 = 3;
+
+fn number(variable: &str) -> Option<u64> {
+    let text = env::var(variable).ok()?;
+    let parsed = match text.strip_prefix("0x") {
+        Some(hex) => u64::from_str_radix(hex, 16),
+        None => text.parse(),
+    };
+    Some(parsed.unwrap_or_else(|_| panic!("{variable} is no number: {text}")))
+}
+
+/// Runs one case both ways. What differs is counted in `failures`, and the
+/// first few of them are shown whole.
+fn compare(name: &str, at: u64, case: &Case, failures: &mut u64) -> (Outcome, Verdict) {
+    let model = cases::by_model(case);
+    let (library, intact) = cases::by_library(case);
+    let verdict = rows::judge(case);
+    let mut text = cases::differences(&model, &library, intact);
+    if verdict.answer() != model.answer[..3] {
+        text += &format!(
+            "  the rows, judged one by one, give {:?}, the model {:?}\n",
+            verdict.answer(),
+            &model.answer[..3]
+        );
+    }
+    if !text.is_empty() {
+        *failures += 1;
+        if *failures <= SHOWN {
+            println!(
+                "\nMISMATCH in {name}, case {at}\n{text}  rows that hold {:?}, rules broken {:?}\n{}",
+                verdict.rows(),
+                verdict.rules(),
+                cases::describe(case)
+            );
+        }
+    }
+    (model, verdict)
+}
+
+/// Runs one entry point's generated cases; answers what was seen and how many
+/// cases failed.
+fn run(entry: Entry, seed: u64, cases: u64, pool: &[Base]) -> (Coverage, u64) {
+    let mut coverage = Coverage::new(entry);
+    let mut failures = 0;
+    for at in 0..cases {
+        let case_seed = mix(mix(seed ^ ((entry as u64) << 48)).wrapping_add(at));
+        let case = generate::case(&mut Rng::new(case_seed), entry, pool);
+        let (model, verdict) = compare(entry.name(), at, &case, &mut failures);
+        coverage.count(&case, &model.answer, &verdict);
+    }
+    (coverage, failures)
+}
+
+/// Says what comes next, so that a crash shows where it was, and starts the
+/// clock.
+fn announce(name: &str) -> Instant {
+    print!("{name:<45}");
+    let _ = io::stdout().flush();
+    Instant::now()
+}
+
+/// Completes the line; mismatches shown in between have broken it off.
+fn conclude(name: &str, inputs: u64, failures: u64, begun: Instant) {
+    if failures > 0 {
+        print!("{name:<45}");
+    }
+    println!(
+        "{inputs:>8} inputs, {failures} mismatches, {:.1?}",
+        begun.elapsed()
+    );
+}
+
+fn main() -> ExitCode {
+    let arguments: Vec<String> = env::args().skip(1).collect();
+    if arguments.iter().any(|argument| argument == "--list") {
+        return ExitCode::SUCCESS;
+    }
+    let words: Vec<&String> = arguments
+        .iter()
+        .filter(|argument| !argument.starts_with('-'))
+        .collect();
+    let wanted = |name: &str| words.is_empty() || words.iter().any(|w| name.contains(w.as_str()));
+    let cases = number("SUMBILAK_CASES").map_or(CASES, |cases| cases.max(CASES));
+    let seed = number("SUMBILAK_SEED").unwrap_or(SEED);
+    println!("seed {seed:#X}, {cases} generated inputs for each entry point");
+
+    let start = Instant::now();
+    let pool = inputs::pool(&mut Rng::new(seed), POOL);
+    println!("{POOL} sound volumes to draw from: {:.1?}", start.elapsed());
+
+    let mut all = Vec::new();
+    let mut failed = 0;
+    for entry in Entry::ALL.into_iter().filter(|entry| wanted(entry.name())) {
+        let begun = announce(entry.name());
+        let (coverage, failures) = run(entry, seed, cases, &pool);
+        conclude(entry.name(), cases, failures, begun);
+        failed += failures;
+        all.push(coverage);
+    }
+    let mut inputs: u64 = all.iter().map(|coverage| coverage.inputs).sum();
+    for (name, sweep) in sweeps::ALL.into_iter().filter(|(name, _)| wanted(name)) {
+        let begun = announce(name);
+        let mut count = 0;
+        let mut failures = 0;
+        sweep(&mut |case| {
+            compare(name, count, &case, &mut failures);
+            count += 1;
+        });
+        conclude(name, count, failures, begun);
+        failed += failures;
+        inputs += count;
+    }
+
+    coverage::print(&all);
+    let gaps: Vec<String> = all.iter().flat_map(Coverage::gaps).collect();
+    println!(
+        "\n{inputs} inputs, {failed} mismatches, {} gaps in what had to be seen, {:.1?}",
+        gaps.len(),
+        start.elapsed()
+    );
+    gaps.iter().for_each(|gap| println!("GAP {gap}"));
+    if failed == 0 && gaps.is_empty() {
+        ExitCode::SUCCESS
+    } else {
+        ExitCode::FAILURE
+    }
+}

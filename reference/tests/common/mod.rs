@@ -1,0 +1,7 @@
+//! Parts of the comparison with the library.
+
+pub mod cases;
+pub mod coverage;
+pub mod generate;
+pub mod rows;
+pub mod sweeps;

@@ -1,0 +1,448 @@
+//! Each row of 01's table of refusals, and each rule of a plan, as a condition
+//! of its own: what holds of a case, without regard to what wins.
+//!
+//! It is written the long way round, apart from the model. It tells which
+//! refusals compete in a case, and the lowest of them is a second opinion on
+//! the model's answer.
+//!
+//! "Each is given when its row holds and not otherwise, as far as that call
+//! has the input named." (01) The tables of an image can be located when its
+//! numbers keep the limits and fit the slice, even if the tag, the version, a
+//! distance or the length field is wrong; then rows 4 to 6 and what a request
+//! asks of them are judged too. Where the tables cannot be located, a request
+//! counts as bad only if it is bad for every volume.
+
+use super::cases::{Call, Case};
+
+const X: u64 = u64::MAX;
+const X32: u32 = u32::MAX;
+const UNIT: u64 = 4096;
+
+/// The rows that hold, each with its place, and the broken rules of a plan.
+#[derive(Clone, Debug, Default)]
+pub struct Verdict {
+    rows: [Option<(u64, u64)>; 13],
+    rules: [bool; 6],
+}
+
+impl Verdict {
+    fn hold(&mut self, row: usize, place: u64) {
+        self.rows[row] = Some((place, 0));
+    }
+
+    /// The rows that hold, rising.
+    pub fn rows(&self) -> Vec<usize> {
+        (1..=12).filter(|&row| self.rows[row].is_some()).collect()
+    }
+
+    /// The rules that are broken, rising.
+    pub fn rules(&self) -> Vec<usize> {
+        (1..=5).filter(|&rule| self.rules[rule]).collect()
+    }
+
+    /// "Lowest number wins" (01): number, place and second place.
+    pub fn answer(&self) -> [u64; 3] {
+        match self.rows().first() {
+            None => [0; 3],
+            Some(&row) => {
+                let (place, second) = self.rows[row].expect("it holds");
+                [row as u64, place, second]
+            }
+        }
+    }
+}
+
+/// The two tables of an image.
+struct Tables {
+    p: u64,
+    c: u64,
+    m: u64,
+    n: u64,
+    entries: Vec<u64>,
+    words: Vec<u64>,
+}
+
+impl Tables {
+    fn map(&self, map: u64) -> &[u64] {
+        let first = (map * self.p) as usize;
+        &self.words[first..first + self.p as usize]
+    }
+
+    /// Chunks that name a map, with its number.
+    fn named(&self) -> impl Iterator<Item = (u64, u64)> + '_ {
+        (0..)
+            .zip(self.entries.iter().copied())
+            .filter(|&(_, map)| map < self.m)
+    }
+
+    /// Which units are free: in no named map.
+    fn free_units(&self) -> Vec<bool> {
+        let mut free = vec![true; self.n as usize];
+        for (_, map) in self.named() {
+            for &unit in self.map(map).iter().filter(|&&word| word < self.n) {
+                free[unit as usize] = false;
+            }
+        }
+        free
+    }
+}
+
+fn number(bytes: &[u8]) -> u64 {
+    bytes
+        .iter()
+        .rev()
+        .fold(0, |number, &byte| number << 8 | u64::from(byte))
+}
+
+/// "P units make a chunk, 2 to 16. C chunks, 1 to 256. M chunk maps, C+1 to
+/// C+32. N backing units, P to P·M." (01), wide enough for any u64.
+fn within_limits([p, c, m, n]: [u128; 4]) -> bool {
+    let p_good = (2..=16).contains(&p);
+    let c_good = (1..=256).contains(&c);
+    let m_good = (c + 1..=c + 32).contains(&m);
+    let n_good = (p..=p.saturating_mul(m)).contains(&n);
+    p_good && c_good && m_good && n_good
+}
+
+/// Rows 1 to 6.
+fn image_rows(image: &[u8], verdict: &mut Verdict) -> Option<Tables> {
+    if image.len() < 32 {
+        // No trailer is there, so no other row of the image can hold.
+        verdict.hold(1, 0);
+        return None;
+    }
+    let trailer = &image[image.len() - 32..];
+    if trailer[..4] != [0x52, 0x4D, 0x41, 0x50] || number(&trailer[4..6]) != 1 {
+        verdict.hold(2, 0);
+    }
+    let p = number(&trailer[6..8]);
+    let [c, m, n, to_logical, to_maps, length] =
+        std::array::from_fn(|i| number(&trailer[8 + 4 * i..12 + 4 * i]));
+    let limits = within_limits([p, c, m, n].map(u128::from));
+    let whole = 8 * c + 8 * m * p + 32;
+    let fits = image.len() as u64 == whole;
+    let agrees = to_logical == whole - 32 && to_maps == 8 * m * p && length == whole;
+    if !limits || !fits || !agrees {
+        verdict.hold(3, 0);
+    }
+    if !limits || !fits {
+        return None;
+    }
+
+    let mut words: Vec<u64> = image[..image.len() - 32].chunks(8).map(number).collect();
+    let maps = words.split_off(c as usize);
+    let tables = Tables {
+        p,
+        c,
+        m,
+        n,
+        entries: words,
+        words: maps,
+    };
+    if let Some(chunk) = tables.entries.iter().position(|&e| e != X && e >= m) {
+        verdict.hold(4, chunk as u64);
+    }
+    let bad_form = |map: u64| {
+        let words = tables.map(map);
+        let held = words.iter().filter(|&&word| word != X).count();
+        held == 0 || words[..held].iter().any(|&word| word >= n)
+    };
+    if let Some((chunk, _)) = tables.named().find(|&(_, map)| bad_form(map)) {
+        verdict.hold(5, chunk);
+    }
+    verdict.rows[6] = shared(&tables);
+    Some(tables)
+}
+
+/// Row 6. Every claim of a map or unit is listed with its chunk; what is
+/// claimed twice makes its second claimant, in the order of chunks, clash.
+fn shared(tables: &Tables) -> Option<(u64, u64)> {
+    let mut claims: Vec<(bool, u64, u64)> = Vec::new();
+    for (chunk, map) in tables.named() {
+        claims.push((true, map, chunk));
+        for &word in tables.map(map).iter().filter(|&&word| word < tables.n) {
+            claims.push((false, word, chunk));
+        }
+    }
+    claims.sort_unstable();
+    let groups = || {
+        claims
+            .chunk_by(|a, b| (a.0, a.1) == (b.0, b.1))
+            .filter(|group| group.len() > 1)
+    };
+    let second = groups().map(|group| group[1].2).min()?;
+    let first = groups()
+        .filter(|group| group[1..].iter().any(|claim| claim.2 == second))
+        .map(|group| group[0].2)
+        .min()?;
+    Some((first, second))
+}
+
+/// Row 7 for a byte range.
+fn range_row(tables: Option<&Tables>, offset: u64, length: u64, one_piece: bool) -> bool {
+    let (c, p) = tables.map_or((256, 16), |t| (t.c, t.p));
+    let end = u128::from(offset) + u128::from(length);
+    let chunk_bytes = p * UNIT;
+    let past = end > u128::from(c * chunk_bytes);
+    let off_grain = !offset.is_multiple_of(UNIT) || !length.is_multiple_of(UNIT);
+    // Without the tables, a piece longer than the longest chunk spans two.
+    let across = match tables {
+        Some(_) => end > u128::from(offset - offset % chunk_bytes) + u128::from(chunk_bytes),
+        None => length > chunk_bytes,
+    };
+    length == 0 || off_grain || past || (one_piece && across)
+}
+
+fn chunk_row(tables: Option<&Tables>, chunk: u64) -> bool {
+    chunk >= tables.map_or(256, |t| t.c)
+}
+
+fn size_row(tables: Option<&Tables>, size: u64) -> bool {
+    size == 0 || size > tables.map_or(16, |t| t.p) * UNIT
+}
+
+/// The rows that hold of a case.
+pub fn judge(case: &Case) -> Verdict {
+    let mut verdict = Verdict::default();
+    if let Call::Format { p, c, m, n } = case.call {
+        let [p, c, m, n] = [p, c, m, n].map(u128::from);
+        let limits = within_limits([p, c, m, n]);
+        if !limits || case.image.len() as u128 != 8 * c + 8 * m * p + 32 {
+            verdict.hold(3, 0);
+        }
+        return verdict;
+    }
+
+    let tables = image_rows(&case.image, &mut verdict);
+    let tables = tables.as_ref();
+    let lent = case.out.len() as u64;
+    match case.call {
+        Call::Format { .. } => unreachable!("judged above"),
+        Call::Report | Call::AlarmCount { .. } => {}
+        Call::Load => {
+            if lent < 648 {
+                verdict.hold(10, 648);
+            }
+        }
+        Call::Split { offset, length } => {
+            if range_row(tables, offset, length, false) {
+                verdict.hold(7, 0);
+                // Whatever its pieces were, there would be one at least.
+                if length > 0 && lent < 12 {
+                    verdict.hold(10, 12);
+                }
+            } else {
+                let chunk_bytes = tables.map_or(16, |t| t.p) * UNIT;
+                let first = offset / chunk_bytes;
+                let last = (offset + length).div_ceil(chunk_bytes);
+                if lent < 12 * (last - first) {
+                    verdict.hold(10, 12 * (last - first));
+                }
+            }
+        }
+        Call::Access { offset, length, .. } => {
+            if range_row(tables, offset, length, true) {
+                verdict.hold(7, 0);
+            }
+        }
+        Call::Held { chunk } => {
+            if chunk_row(tables, chunk) {
+                verdict.hold(7, 0);
+            }
+        }
+        Call::PlanWrite { chunk, size } => {
+            if chunk_row(tables, chunk) {
+                verdict.hold(7, 0);
+            }
+            let bad_size = size_row(tables, size);
+            if bad_size {
+                verdict.hold(8, 0);
+            }
+            let k = size.div_ceil(UNIT);
+            if let Some(tables) = tables {
+                let free = tables.free_units().iter().filter(|&&free| free).count();
+                if k > free as u64 {
+                    verdict.hold(9, free as u64);
+                }
+            }
+            // A size out of range has no plan; the shortest one stands in.
+            let k = if bad_size { 1 } else { k };
+            let needed = 16 * (k + tables.map_or(2, |t| t.p) + 3);
+            if lent < needed {
+                verdict.hold(10, needed);
+            }
+        }
+        Call::PlanDiscard { chunk } => {
+            let bad_chunk = chunk_row(tables, chunk);
+            if bad_chunk {
+                verdict.hold(7, 0);
+            }
+            // A chunk that isn't there is neither mapped nor unmapped; an
+            // output too short for a mapped one's plan counts as competing.
+            let mapped = match tables {
+                Some(tables) if !bad_chunk => tables.entries[chunk as usize] != X,
+                _ => true,
+            };
+            if mapped && lent < 32 {
+                verdict.hold(10, 32);
+            }
+        }
+        Call::CheckWrite { chunk, size } => {
+            plan_rows(case, tables, chunk, Some(size), 0, &mut verdict)
+        }
+        Call::CheckDiscard { chunk } => plan_rows(case, tables, chunk, None, 0, &mut verdict),
+        Call::CarryWrite { chunk, size, n } => {
+            plan_rows(case, tables, chunk, Some(size), n, &mut verdict)
+        }
+        Call::CarryDiscard { chunk, n } => plan_rows(case, tables, chunk, None, n, &mut verdict),
+        Call::AlarmFraction { fraction } => {
+            let (below, above) = (fraction < 0.0, fraction > 1.0);
+            if fraction.is_nan() || below || above {
+                verdict.hold(12, 0);
+            }
+        }
+    }
+    verdict
+}
+
+/// Rows 7, 8 and 11 of a checker or carrier.
+fn plan_rows(
+    case: &Case,
+    tables: Option<&Tables>,
+    chunk: u64,
+    size: Option<u64>,
+    n: u64,
+    verdict: &mut Verdict,
+) {
+    let bad_chunk = chunk_row(tables, chunk);
+    let bad_size = size.is_some_and(|size| size_row(tables, size));
+    if bad_chunk || n > case.plan.len() as u64 / 16 {
+        verdict.hold(7, 0);
+    }
+    if bad_size {
+        verdict.hold(8, 0);
+    }
+    let steps: Vec<[u32; 4]> = case
+        .plan
+        .chunks_exact(16)
+        .map(|step| std::array::from_fn(|i| number(&step[4 * i..4 * i + 4]) as u32))
+        .collect();
+
+    // Rule 1 asks nothing of the request; the others need a good one.
+    let shapeless = !case.plan.len().is_multiple_of(16) || steps.len() > 64;
+    verdict.rules[1] = shapeless || steps.iter().any(|step| !step_good(tables, step));
+    if let (Some(tables), false, false) = (tables, bad_chunk, bad_size) {
+        match size {
+            Some(size) => write_rules(tables, chunk, size.div_ceil(UNIT), &steps, verdict),
+            None => discard_rules(tables, chunk, &steps, verdict),
+        }
+    }
+    if let Some(&rule) = verdict.rules().first() {
+        verdict.hold(11, rule as u64);
+    }
+}
+
+/// Rule 1 of one step; without the tables, against the largest volume.
+fn step_good(tables: Option<&Tables>, step: &[u32; 4]) -> bool {
+    let (p, c, m, n) = tables.map_or((16, 256, 288, 4608), |t| (t.p, t.c, t.m, t.n));
+    let [kind, a, b, d] = step.map(u64::from);
+    let absent = step[3] == X32;
+    match kind {
+        1 => a < n && b < p && d == 0,
+        2 => a < m && b < p && (d < n || absent),
+        3 => a < c && b == 0 && (d < m || absent),
+        4 => a == 0 && b == 0 && d == 0,
+        _ => false,
+    }
+}
+
+fn of_kind(steps: &[[u32; 4]], kind: u32) -> Vec<(usize, [u32; 4])> {
+    let steps = steps.iter().copied().enumerate();
+    steps.filter(|(_, step)| step[0] == kind).collect()
+}
+
+fn sorted(numbers: impl Iterator<Item = u32>) -> Vec<u32> {
+    let mut numbers: Vec<u32> = numbers.collect();
+    numbers.sort_unstable();
+    numbers
+}
+
+fn write_rules(tables: &Tables, chunk: u64, k: u64, steps: &[[u32; 4]], verdict: &mut Verdict) {
+    let data = of_kind(steps, 1);
+    let maps = of_kind(steps, 2);
+    let links = of_kind(steps, 3);
+    let fences = of_kind(steps, 4);
+    let k = k as u32;
+    let p = tables.p as u32;
+
+    // 2: "pieces 0 to k-1 once each, no other, on different free units."
+    let pieces = sorted(data.iter().map(|(_, step)| step[2]));
+    let units = sorted(data.iter().map(|(_, step)| step[1]));
+    let free = tables.free_units();
+    let all_free = units
+        .iter()
+        .all(|&unit| free.get(unit as usize).copied().unwrap_or(false));
+    let different = units.windows(2).all(|pair| pair[0] != pair[1]);
+    verdict.rules[2] = !pieces.into_iter().eq(0..k) || !all_free || !different;
+
+    // 3: "all MAP steps on one free map, each word 0 to P-1 once; word j is
+    // piece j's unit for j below k, else X."
+    let one_map = maps.windows(2).all(|pair| pair[0].1[1] == pair[1].1[1]);
+    let the_map = maps.first().map(|(_, step)| step[1]).filter(|_| one_map);
+    let named = |map: u32| tables.entries.contains(&u64::from(map));
+    let free_map = the_map.is_some_and(|map| u64::from(map) < tables.m && !named(map));
+    let each_word = sorted(maps.iter().map(|(_, step)| step[2]))
+        .into_iter()
+        .eq(0..p);
+    let word_good = |step: &[u32; 4]| {
+        if step[2] >= k {
+            return step[3] == X32;
+        }
+        let mut units = data
+            .iter()
+            .filter(|(_, data)| data[2] == step[2])
+            .map(|(_, data)| data[1])
+            .peekable();
+        units.peek().is_some() && units.all(|unit| unit == step[3])
+    };
+    let words_good = maps.iter().all(|(_, step)| word_good(step));
+    verdict.rules[3] = !free_map || !each_word || !words_good;
+
+    // 4: "one LINK, this chunk, that map."
+    let link_good = match links[..] {
+        [(_, step)] => u64::from(step[1]) == chunk && the_map == Some(step[3]),
+        _ => false,
+    };
+    verdict.rules[4] = !link_good;
+
+    // 5: "every DATA and MAP precedes LINK, with a FENCE after the last of
+    // them and before LINK; the last step is FENCE."
+    let last_store = data.iter().chain(&maps).map(|(at, _)| *at).max();
+    let ordered = |link: usize| match last_store {
+        None => true,
+        Some(last) => fences.iter().any(|&(at, _)| last < at && at < link),
+    };
+    let all_ordered = links.iter().all(|&(at, _)| ordered(at));
+    verdict.rules[5] = !all_ordered || !fence_last(steps);
+}
+
+fn discard_rules(tables: &Tables, chunk: u64, steps: &[[u32; 4]], verdict: &mut Verdict) {
+    verdict.rules[2] = !of_kind(steps, 1).is_empty();
+    verdict.rules[3] = !of_kind(steps, 2).is_empty();
+    let links = of_kind(steps, 3);
+    if tables.entries[chunk as usize] == X {
+        verdict.rules[4] = !links.is_empty();
+        verdict.rules[5] = !steps.is_empty();
+    } else {
+        let link_good = match links[..] {
+            [(_, step)] => u64::from(step[1]) == chunk && step[3] == X32,
+            _ => false,
+        };
+        verdict.rules[4] = !link_good;
+        verdict.rules[5] = !fence_last(steps);
+    }
+}
+
+fn fence_last(steps: &[[u32; 4]]) -> bool {
+    steps.last().is_some_and(|step| step[0] == 4)
+}

@@ -1,0 +1,315 @@
+//! Small scopes gone through completely: every case of a kind on the worked
+//! example of 01, without chance.
+
+use sumbilak_reference::inputs::{self, Fields, Shape, FENCE, TWO_32, X, X32};
+use sumbilak_reference::model;
+
+use super::cases::{Call, Case};
+
+const SHAPE: Shape = Shape {
+    p: 4,
+    c: 4,
+    m: 5,
+    n: 20,
+};
+
+/// A sweep hands each of its cases to the given function.
+pub type Sweep = fn(&mut dyn FnMut(Case));
+
+/// Every sweep, by name.
+pub const ALL: [(&str, Sweep); 10] = [
+    ("format and load, around every limit", limits),
+    ("load, every value of every byte", load_bytes),
+    ("load, two words of the tables", load_words),
+    ("load, every length", load_lengths),
+    ("split and access, every range", ranges),
+    ("check_write, every value of every byte", plan_bytes),
+    ("check_write, steps left out or moved", plan_orders),
+    ("check_discard, every short plan", discards),
+    ("carry_write, every step count", carries),
+    ("plan_write and plan_discard, every output", outputs),
+];
+
+fn case(call: Call, image: Vec<u8>) -> Case {
+    Case {
+        call,
+        image,
+        out: Vec::new(),
+        plan: Vec::new(),
+        skew: 0,
+    }
+}
+
+fn load(image: Vec<u8>) -> Case {
+    Case {
+        out: vec![0xA5; 8 * 81],
+        ..case(Call::Load, image)
+    }
+}
+
+fn write(image: &mut [u8], chunk: u64, size: u64) {
+    let mut out = [0; 16 * 35];
+    let steps = model::plan_write(image, chunk, size, &mut out).expect("room");
+    let plan = &out[..16 * steps as usize];
+    model::carry_write(image, chunk, size, plan, steps).expect("the planner's plan");
+}
+
+/// The example before its third write: chunk 0 on unit 2 by map 1, chunk 2 on
+/// units 0 and 1 by map 0.
+fn example() -> Vec<u8> {
+    let mut image = inputs::fresh(&SHAPE);
+    write(&mut image, 2, 6144);
+    write(&mut image, 0, 3072);
+    image
+}
+
+/// The third write's plan.
+fn third_plan() -> Vec<Fields> {
+    inputs::assemble(&SHAPE, 0, &[3, 4], 2)
+}
+
+fn check_third(steps: &[Fields]) -> Case {
+    let call = Call::CheckWrite {
+        chunk: 0,
+        size: 5120,
+    };
+    Case {
+        plan: inputs::encode(steps),
+        ..case(call, example())
+    }
+}
+
+/// Geometries at and past both ends of each limit, in images and buffers that
+/// agree with them.
+fn limits(give: &mut dyn FnMut(Case)) {
+    for p in [0u64, 1, 2, 3, 15, 16, 17, 18] {
+        for c in [0, 1, 2, 255, 256, 257] {
+            for m in [c, c + 1, c + 2, c + 31, c + 32, c + 33] {
+                let full = p * m;
+                for n in [0, p, p + 1, (c + 1) * p, full, full + 1, 4608, 4609] {
+                    for n in [n, n.saturating_sub(1)] {
+                        let image = inputs::blank(&Shape { p, c, m, n });
+                        give(load(image.clone()));
+                        let buffer = vec![0xA5; image.len()];
+                        give(case(Call::Format { p, c, m, n }, buffer));
+                    }
+                }
+            }
+        }
+    }
+}
+
+fn load_bytes(give: &mut dyn FnMut(Case)) {
+    let image = example();
+    for at in 0..image.len() {
+        for value in 0..=255 {
+            let mut image = image.clone();
+            image[at] = value;
+            give(load(image));
+        }
+    }
+}
+
+fn load_words(give: &mut dyn FnMut(Case)) {
+    let image = example();
+    let words = SHAPE.image_len() / 8 - 4;
+    let values = [0, 1, 2, 3, 4, 5, 19, 20, TWO_32 - 1, TWO_32 + 1, X - 1, X];
+    for first in 0..words {
+        for second in first + 1..words {
+            for a in values {
+                for b in values {
+                    let mut image = image.clone();
+                    inputs::put_word(&mut image, 8 * first, a);
+                    inputs::put_word(&mut image, 8 * second, b);
+                    give(load(image));
+                }
+            }
+        }
+    }
+}
+
+fn load_lengths(give: &mut dyn FnMut(Case)) {
+    let image = example();
+    for cut in 0..=image.len() {
+        give(load(image[cut..].to_vec()));
+        give(load(image[..image.len() - cut].to_vec()));
+        let mut longer = vec![0xFF; cut];
+        longer.extend(&image);
+        give(load(longer));
+    }
+    for words in 0..100 {
+        let mut case = load(image.clone());
+        case.out.resize(8 * words, 0xA5);
+        give(case);
+    }
+}
+
+/// All ranges in half units, to one chunk past the end.
+fn ranges(give: &mut dyn FnMut(Case)) {
+    let image = example();
+    for offset in (0..=40).map(|half| half * 2048) {
+        for length in (0..=40).map(|half| half * 2048) {
+            for room in [0, 11, 12, 35, 36, 47, 48, 60] {
+                give(Case {
+                    out: vec![0xA5; room],
+                    ..case(Call::Split { offset, length }, image.clone())
+                });
+            }
+            for write in [false, true] {
+                let call = Call::Access {
+                    write,
+                    offset,
+                    length,
+                };
+                give(case(call, image.clone()));
+            }
+        }
+    }
+}
+
+fn plan_bytes(give: &mut dyn FnMut(Case)) {
+    let plan = inputs::encode(&third_plan());
+    for at in 0..plan.len() {
+        for value in 0..=255 {
+            let mut case = check_third(&[]);
+            case.plan = plan.clone();
+            case.plan[at] = value;
+            give(case);
+        }
+    }
+    for len in 0..plan.len() {
+        let mut case = check_third(&[]);
+        case.plan = plan[..len].to_vec();
+        give(case);
+    }
+}
+
+/// Every subset of the steps, every two steps swapped, every step moved or
+/// repeated elsewhere, every step replaced by another, fences anywhere.
+fn plan_orders(give: &mut dyn FnMut(Case)) {
+    let steps = third_plan();
+    for subset in 0..1u32 << steps.len() {
+        let kept = |at: &usize| subset >> at & 1 != 0;
+        let some: Vec<Fields> = (0..steps.len()).filter(kept).map(|at| steps[at]).collect();
+        give(check_third(&some));
+    }
+    for from in 0..steps.len() {
+        for to in 0..steps.len() {
+            let mut swapped = steps.clone();
+            swapped.swap(from, to);
+            give(check_third(&swapped));
+            for third in 0..steps.len() {
+                let mut turned = swapped.clone();
+                turned.swap(to, third);
+                give(check_third(&turned));
+            }
+            let mut moved = steps.clone();
+            let step = moved.remove(from);
+            moved.insert(to, step);
+            give(check_third(&moved));
+            let mut repeated = steps.clone();
+            repeated.insert(to, steps[from]);
+            give(check_third(&repeated));
+            let mut replaced = steps.clone();
+            replaced[to] = steps[from];
+            give(check_third(&replaced));
+            let mut fenced = steps.clone();
+            fenced.insert(from, FENCE);
+            fenced.insert(to, FENCE);
+            give(check_third(&fenced));
+        }
+    }
+    for count in steps.len()..=70 {
+        let mut fenced = steps.clone();
+        fenced.resize(count, FENCE);
+        give(check_third(&fenced));
+    }
+}
+
+/// Every plan of up to four steps over a small alphabet, for a mapped and an
+/// unmapped chunk.
+fn discards(give: &mut dyn FnMut(Case)) {
+    let alphabet = [
+        FENCE,
+        [3, 0, 0, X32],
+        [3, 1, 0, X32],
+        [3, 0, 0, 1],
+        [1, 5, 0, 0],
+        [2, 3, 0, 5],
+        [4, 0, 0, 1],
+    ];
+    let image = example();
+    let mut plans: Vec<Vec<Fields>> = vec![Vec::new()];
+    let mut from = 0;
+    for _ in 0..4 {
+        let longer: Vec<Vec<Fields>> = plans[from..]
+            .iter()
+            .flat_map(|plan| {
+                alphabet.map(|step| {
+                    let mut plan = plan.clone();
+                    plan.push(step);
+                    plan
+                })
+            })
+            .collect();
+        from = plans.len();
+        plans.extend(longer);
+    }
+    for plan in plans {
+        for chunk in [0, 1] {
+            give(Case {
+                plan: inputs::encode(&plan),
+                ..case(Call::CheckDiscard { chunk }, image.clone())
+            });
+        }
+    }
+}
+
+/// Each prefix of the third write's plan with every order of its first six
+/// steps turned by one place, and of a discard's.
+fn carries(give: &mut dyn FnMut(Case)) {
+    for turn in 0..6 {
+        let mut steps = third_plan();
+        steps[..6].rotate_left(turn);
+        for n in 0..=steps.len() as u64 + 2 {
+            let call = Call::CarryWrite {
+                chunk: 0,
+                size: 5120,
+                n,
+            };
+            give(Case {
+                plan: inputs::encode(&steps),
+                ..case(call, example())
+            });
+        }
+    }
+    for chunk in 0..=4 {
+        for n in 0..=4 {
+            give(Case {
+                plan: inputs::encode(&[[3, chunk as u32, 0, X32], FENCE]),
+                ..case(Call::CarryDiscard { chunk, n }, example())
+            });
+            give(case(Call::CarryDiscard { chunk, n }, example()));
+        }
+    }
+}
+
+fn outputs(give: &mut dyn FnMut(Case)) {
+    let image = example();
+    for size in [0, 1, 4096, 4097, 8192, 12_288, 16_384, 16_385] {
+        for room in 0..200 {
+            give(Case {
+                out: vec![0xA5; room],
+                ..case(Call::PlanWrite { chunk: 3, size }, image.clone())
+            });
+        }
+    }
+    for chunk in 0..=4 {
+        for room in 0..40 {
+            give(Case {
+                out: vec![0xA5; room],
+                ..case(Call::PlanDiscard { chunk }, image.clone())
+            });
+        }
+    }
+}

@@ -1,0 +1,645 @@
+//! A power-cut simulator over the proved library.
+//!
+//! The library formats, plans, checks and carries out; the cut rule, the
+//! landing of single words, the units' contents and the ledger are the
+//! simulator's own, from 01. After every event the image found has to load
+//! and to be sound, no unit has two owners, every chunk holds what the ledger
+//! gives it, and the chunk in flight holds all its new pieces or all its old
+//! ones.
+//!
+//! Lists of events are random on many volumes and exhaustive on small ones.
+//! Rules that are wrong on purpose show that the simulator can fail.
+//!
+//! `SUMBILAK_LISTS` runs so many times as many random lists, `SUMBILAK_SEED`
+//! changes their seed, `SUMBILAK_STORIES` prints the lists that wrong rules
+//! were noticed in. A build with debug assertions runs less.
+
+#[path = "power_cuts/event.rs"]
+mod event;
+#[path = "power_cuts/every_plan.rs"]
+mod every_plan;
+#[path = "power_cuts/exhaustive.rs"]
+mod exhaustive;
+#[path = "power_cuts/figures.rs"]
+mod figures;
+#[path = "power_cuts/lists.rs"]
+mod lists;
+#[path = "power_cuts/old_link.rs"]
+mod old_link;
+#[path = "power_cuts/plans.rs"]
+mod plans;
+#[path = "power_cuts/rules.rs"]
+mod rules;
+#[path = "power_cuts/simulate.rs"]
+mod simulate;
+#[path = "power_cuts/volume.rs"]
+mod volume;
+#[path = "power_cuts/wrong.rs"]
+mod wrong;
+
+use std::collections::BTreeSet;
+use std::env;
+use std::time::Instant;
+
+use event::{Hand, Request, DATA, LINK, MAP};
+use exhaustive::{explore, Plans, Scope, Tally};
+use figures::{print, row, table, Figures};
+use lists::Case;
+use rules::{Library, Rules};
+use simulate::{Simulator, Violation};
+use sumbilak_reference::ffi::{self, LOAD_WORDS};
+use sumbilak_reference::inputs::{self, encode, put_entry, put_word, Fields, Shape, FENCE, X32};
+use sumbilak_reference::rng::{mix, Rng};
+use volume::Volume;
+
+const SEED: u64 = 0x524D_4150_0002;
+
+fn number(variable: &str) -> Option<u64> {
+    let text = env::var(variable).ok()?;
+    let parsed = match text.strip_prefix("0x") {
+        Some(hex) => u64::from_str_radix(hex, 16),
+        None => text.parse(),
+    };
+    Some(parsed.unwrap_or_else(|_| panic!("{variable} is no number: {text}")))
+}
+
+fn seed() -> u64 {
+    number("SUMBILAK_SEED").unwrap_or(SEED)
+}
+
+/// A number of lists, as many times as asked for.
+fn times(lists: u64) -> u64 {
+    let lists = lists * number("SUMBILAK_LISTS").unwrap_or(1);
+    if cfg!(debug_assertions) {
+        lists.div_ceil(5)
+    } else {
+        lists
+    }
+}
+
+const fn shape(p: u64, c: u64, m: u64, n: u64) -> Shape {
+    Shape { p, c, m, n }
+}
+
+fn name(shape: &Shape) -> String {
+    let Shape { p, c, m, n } = shape;
+    format!("P={p} C={c} M={m} N={n}")
+}
+
+/// Every violation counts.
+fn any(_: &Violation) -> bool {
+    true
+}
+
+/// Geometries and how many lists each is given.
+const VOLUMES: [(Shape, u64); 22] = [
+    (shape(2, 1, 2, 2), 600),
+    (shape(2, 1, 2, 3), 400),
+    (shape(2, 2, 3, 2), 300),
+    (shape(2, 2, 3, 4), 500),
+    (shape(2, 2, 3, 6), 400),
+    (shape(2, 3, 4, 5), 400),
+    (shape(3, 2, 3, 6), 400),
+    (shape(3, 3, 35, 9), 300),
+    (shape(4, 4, 5, 4), 200),
+    (shape(4, 4, 5, 12), 600),
+    (shape(4, 4, 5, 20), 1500),
+    (shape(16, 1, 2, 16), 200),
+    (shape(16, 1, 2, 32), 200),
+    (shape(16, 4, 36, 65), 200),
+    (shape(5, 12, 13, 63), 200),
+    (shape(5, 12, 13, 64), 200),
+    (shape(8, 16, 17, 129), 150),
+    (shape(2, 32, 64, 128), 150),
+    (shape(2, 256, 257, 514), 40),
+    (shape(16, 256, 257, 2000), 20),
+    (shape(16, 256, 288, 4096), 20),
+    (shape(16, 256, 288, 4608), 40),
+];
+
+#[test]
+fn random_event_lists() {
+    let begun = Instant::now();
+    let seed = seed();
+    let mut all = Figures::default();
+    let mut rows = vec![row(
+        "volume",
+        &[
+            "lists",
+            "events",
+            "refused",
+            "finished",
+            "cut",
+            "LINK landed in a cut",
+            "cuts with steps missing",
+            "steps landed",
+            "DATA not landed",
+            "carried out",
+            "violations",
+        ],
+    )];
+    let mut failed: Option<Case> = None;
+    let mut tell = |name: &str, figures: &Figures| {
+        rows.push(row(
+            name,
+            &[
+                figures.lists,
+                figures.events,
+                figures.refused,
+                figures.finished,
+                figures.cut,
+                figures.cut_linked,
+                figures.cut_partial,
+                figures.steps_landed,
+                figures.data_left,
+                figures.carried,
+                figures.violations,
+            ],
+        ));
+    };
+
+    for (at, (shape, lists)) in (0..).zip(VOLUMES) {
+        let mut figures = Figures::default();
+        let seed = mix(seed ^ at);
+        let case = lists::run(&Library, shape, times(lists), seed, &any, &mut figures);
+        failed = failed.or(case);
+        tell(&name(&shape), &figures);
+        all += &figures;
+    }
+    let mut figures = Figures::default();
+    let mut rng = Rng::new(seed);
+    for _ in 0..times(300) {
+        let shape = inputs::shape(&mut rng);
+        let case = lists::run(&Library, shape, 2, rng.next_u64(), &any, &mut figures);
+        failed = failed.or(case);
+    }
+    tell("random geometries", &figures);
+    all += &figures;
+    tell("all", &all);
+
+    let mut hands = vec![row("plans", &["accepted", "refused", "n too large"])];
+    for (name, counts) in Hand::NAMES.iter().zip(all.hands) {
+        hands.push(row(name, &counts));
+    }
+    let title = format!(
+        "Random event lists, seed {seed:#X}, {:.1?}",
+        begun.elapsed()
+    );
+    print(&table(&title, &rows));
+    print(&table("Plans by hand", &hands));
+
+    if let Some(case) = failed {
+        panic!("{case}");
+    }
+    assert_eq!(all.hands[Hand::Damaged(0).index()][0], 0, "damaged plans");
+    let mutated = all.hands[Hand::Mutated.index()];
+    assert!(mutated.iter().all(|&count| count > 0), "mutated plans");
+    assert!(all.cut_linked > 100 && all.cut_partial > 100);
+}
+
+/// 01's three writes on the 64 KB volume.
+const WORKED_THROUGH: [(u64, u64); 3] = [(2, 6144), (0, 3072), (0, 5120)];
+
+/// A volume from format on, until nothing new is reached.
+const fn closure(shape: Shape, plans: Plans) -> Scope {
+    Scope {
+        shape,
+        start: &[],
+        plans,
+        depth: None,
+    }
+}
+
+/// A volume from format on, by lists up to this length.
+const fn lists_to(length: usize, shape: Shape) -> Scope {
+    Scope {
+        shape,
+        start: &[],
+        plans: Plans::Two,
+        depth: Some(length),
+    }
+}
+
+/// The volumes that are explored, and how far.
+const SCOPES: [Scope; 21] = [
+    lists_to(3, shape(2, 1, 2, 2)),
+    lists_to(3, shape(2, 1, 2, 3)),
+    lists_to(3, shape(2, 1, 2, 4)),
+    lists_to(2, shape(2, 2, 3, 4)),
+    lists_to(2, shape(2, 2, 3, 6)),
+    lists_to(2, shape(3, 1, 2, 4)),
+    lists_to(1, shape(4, 4, 5, 20)),
+    Scope {
+        shape: VOLUME_64K,
+        start: &WORKED_THROUGH,
+        plans: Plans::Edits,
+        depth: Some(1),
+    },
+    closure(shape(2, 1, 2, 2), Plans::Edits),
+    closure(shape(2, 1, 2, 3), Plans::Edits),
+    closure(shape(2, 2, 3, 2), Plans::Edits),
+    closure(shape(2, 1, 2, 2), Plans::EveryChoice),
+    closure(shape(2, 1, 2, 3), Plans::EveryChoice),
+    closure(shape(2, 1, 2, 4), Plans::EveryChoice),
+    closure(shape(2, 1, 3, 2), Plans::EveryChoice),
+    closure(shape(3, 1, 2, 3), Plans::EveryChoice),
+    closure(shape(2, 2, 3, 2), Plans::EveryChoice),
+    closure(shape(2, 2, 3, 3), Plans::EveryChoice),
+    closure(shape(2, 1, 3, 4), Plans::Two),
+    closure(shape(3, 1, 2, 4), Plans::Two),
+    closure(shape(2, 2, 3, 4), Plans::Two),
+];
+
+/// Events after which a build with debug assertions leaves the rest out.
+const LARGE: u64 = 2_000_000;
+
+#[test]
+fn small_volumes_exhaustively() {
+    let begun = Instant::now();
+    let mut rows = vec![row(
+        "volume",
+        &[
+            "plans",
+            "lists",
+            "states",
+            "expanded",
+            "deepest",
+            "plans accepted",
+            "plans refused",
+            "cut points",
+            "subsets",
+            "events",
+            "carried out",
+            "violations",
+        ],
+    )];
+    let mut all = Tally::default();
+    let mut failed = None;
+    for scope in &SCOPES {
+        if cfg!(debug_assertions) && all.events > LARGE {
+            break;
+        }
+        let (tally, case) = explore(&Library, scope, &any);
+        failed = failed.or(case);
+        let lists = match scope.depth {
+            Some(depth) => format!("up to {depth}"),
+            None => "any length".to_string(),
+        };
+        let mut cells = vec![scope.plans.name().to_string(), lists];
+        cells.extend(tally.cells().map(|figure| figure.to_string()));
+        let started = if scope.start.is_empty() {
+            ""
+        } else {
+            ", worked through"
+        };
+        rows.push(row(&(name(&scope.shape) + started), &cells));
+        all += &tally;
+    }
+    let mut cells = vec![String::new(), String::new()];
+    cells.extend(all.cells().map(|figure| figure.to_string()));
+    rows.push(row("all", &cells));
+    let title = format!("Small volumes, exhaustively, {:.1?}", begun.elapsed());
+    print(&table(&title, &rows));
+    if let Some(case) = failed {
+        panic!("{case}");
+    }
+}
+
+/// Every order of the steps.
+fn orders(steps: &[Fields]) -> Vec<Vec<Fields>> {
+    if steps.is_empty() {
+        return vec![Vec::new()];
+    }
+    let mut all = Vec::new();
+    for at in 0..steps.len() {
+        let mut rest = steps.to_vec();
+        let first = rest.remove(at);
+        for mut order in orders(&rest) {
+            order.insert(0, first);
+            all.push(order);
+        }
+    }
+    all
+}
+
+/// The legal plans of exactly so many steps on the smallest volume, for a
+/// write of one unit or a discard of chunk 0. Mapped, it is on unit 0 and
+/// map 0.
+///
+/// A write takes six steps at least, and with six there is room for no more
+/// fences: DATA and the two MAP steps in any order, FENCE, LINK, FENCE. A
+/// discard has fences before and after LINK, at least one after.
+fn legal_plans(write: bool, mapped: bool, length: usize) -> BTreeSet<Vec<u8>> {
+    let mut legal = BTreeSet::new();
+    if write && length == 6 {
+        let free = if mapped { 1..2 } else { 0..2 };
+        for (unit, map) in free
+            .clone()
+            .flat_map(|unit| free.clone().map(move |map| (unit, map)))
+        {
+            let words = [[MAP, map, 0, unit], [MAP, map, 1, X32]];
+            for mut steps in orders(&[[DATA, unit, 0, 0], words[0], words[1]]) {
+                steps.extend([FENCE, [LINK, 0, 0, map], FENCE]);
+                legal.insert(encode(&steps));
+            }
+        }
+    } else if !write && mapped {
+        for link in 0..length.saturating_sub(1) {
+            let mut steps = vec![FENCE; length];
+            steps[link] = [LINK, 0, 0, X32];
+            legal.insert(encode(&steps));
+        }
+    } else if !write && length == 0 {
+        legal.insert(Vec::new());
+    }
+    legal
+}
+
+/// Of all plans that a few steps can make on the smallest volume the checker
+/// accepts exactly the legal ones. All plans of six steps are 64 million and
+/// only tried where more lists are asked for; else those that end in FENCE.
+#[test]
+fn of_every_short_plan_only_the_legal_ones_pass() {
+    let begun = Instant::now();
+    let shape = shape(2, 1, 2, 2);
+    let fresh = Volume::formatted(&shape, || 0).image;
+    let mut mapped = fresh.clone();
+    put_entry(&mut mapped, 0, 0);
+    put_word(&mut mapped, shape.word_at(0, 0), 0);
+
+    let most = if cfg!(debug_assertions) { 4 } else { 5 };
+    let all_of_six = number("SUMBILAK_LISTS").is_some_and(|times| times > 1);
+    let mut rows = vec![row("plans", &["steps", "tried", "accepted", "legal"])];
+    let mut all_good = true;
+    for (image, is_mapped) in [(&mapped, true), (&fresh, false)] {
+        for size in [Some(4096), None] {
+            let request = Request { chunk: 0, size };
+            let mut runs: Vec<(usize, &[Fields])> = (0..=most).map(|at| (at, &[][..])).collect();
+            if all_of_six {
+                runs.push((6, &[]));
+            } else if size.is_some() {
+                runs.push((most, &[FENCE]));
+            }
+            for (length, end) in runs {
+                let steps = length + end.len();
+                let legal = legal_plans(size.is_some(), is_mapped, steps);
+                let (tried, accepted) = every_plan::accepted(&shape, image, request, length, end);
+                all_good &= accepted == legal;
+                let name = format!(
+                    "{} of {} chunk{}",
+                    if size.is_some() { "write" } else { "discard" },
+                    if is_mapped { "a mapped" } else { "an unmapped" },
+                    if end.is_empty() { "" } else { ", FENCE last" },
+                );
+                let figures = [
+                    steps as u64,
+                    tried,
+                    accepted.len() as u64,
+                    legal.len() as u64,
+                ];
+                rows.push(row(&name, &figures));
+            }
+        }
+    }
+    let title = format!("Every plan of a few steps, {:.1?}", begun.elapsed());
+    print(&table(&title, &rows));
+    assert!(all_good, "the checker accepts exactly the legal plans");
+}
+
+/// The 64 KB volume.
+const VOLUME_64K: Shape = shape(4, 4, 5, 20);
+
+/// Lists for a wrong rule to be noticed in.
+const CHANCES: u64 = 3000;
+
+/// Runs random lists under a wrong rule until a violation that `tells` picks is
+/// seen. The right rules pass the same lists.
+fn notice_at_random<R: Rules>(
+    rule: &str,
+    rules: &R,
+    tells: &dyn Fn(&Violation) -> bool,
+) -> (Figures, Case) {
+    let mut figures = Figures::default();
+    let case = lists::run(rules, VOLUME_64K, CHANCES, seed(), tells, &mut figures);
+    let case = case.unwrap_or_else(|| panic!("{rule}: not noticed"));
+    let control = &mut Figures::default();
+    let right = lists::run(&Library, VOLUME_64K, figures.lists, seed(), &any, control);
+    assert!(right.is_none(), "{rule}: the right rules fail as well");
+    (figures, case)
+}
+
+/// Runs a wrong rule until each of these violations is seen, by random lists
+/// on the 64 KB volume and exhaustively on a small one.
+///
+/// The violations are those of the volume: answers are not compared with the
+/// right ones here. With `SUMBILAK_STORIES` set the lists are printed.
+fn notice<R: Rules>(rule: &str, rules: &R, violations: &[&str]) {
+    let mut rows = vec![row(
+        "violation",
+        &[
+            "random list",
+            "event",
+            "events it takes",
+            "exhaustively, event",
+            "list of",
+        ],
+    )];
+    let mut stories = String::new();
+    for &violation in violations {
+        let tells = |seen: &Violation| seen.name() == violation;
+        let rule = format!("{rule}, {violation}");
+        let (figures, case) = notice_at_random(&rule, rules, &tells);
+        let scope = closure(shape(2, 2, 3, 4), Plans::Edits);
+        let (tally, found) = explore(rules, &scope, &tells);
+        let found = found.unwrap_or_else(|| panic!("{rule}: not noticed exhaustively"));
+        rows.push(row(
+            violation,
+            &[
+                figures.lists,
+                figures.events,
+                case.events.len() as u64,
+                tally.events,
+                found.events.len() as u64,
+            ],
+        ));
+        stories += &format!("\n{case}\n{found}");
+    }
+    print(&table(&format!("Noticed: {rule}"), &rows));
+    if env::var_os("SUMBILAK_STORIES").is_some() {
+        print(&stories);
+    }
+}
+
+const NEITHER: &str = "neither all new nor all old";
+const LEDGER: &str = "not what the ledger gives";
+const UNFINISHED: &str = "finished but not landed";
+const LOAD: &str = "does not load";
+const NO_MAP: &str = "a map that is not there";
+const TWO_OWNERS: &str = "unit with two owners";
+const CARRIER: &str = "carrying out";
+
+/// "LINK before the fence: a cut shows a map that isn't there." (01)
+#[test]
+fn a_checker_without_the_fence_before_link_is_caught() {
+    let rules = wrong::Checker(wrong::without_the_fence_before_link);
+    notice(
+        "LINK before the fence",
+        &rules,
+        &[NO_MAP, NEITHER, LEDGER, LOAD],
+    );
+}
+
+/// "No last FENCE": a plan is finished, and yet its LINK has not landed.
+#[test]
+fn a_checker_without_the_last_fence_is_caught() {
+    let rules = wrong::Checker(wrong::without_the_last_fence);
+    notice("no last FENCE", &rules, &[UNFINISHED, LEDGER]);
+}
+
+/// "No last FENCE: the next plan reuses old units while the old link may come
+/// back." (01)
+#[test]
+fn an_old_link_that_comes_back_is_caught() {
+    let right = old_link::run(true);
+    let wrong = old_link::run(false);
+    let cells = |cuts: old_link::Cuts| [cuts.tried, cuts.lost, cuts.lies];
+    let rows = [
+        row(
+            "first plan",
+            &["cuts of the next", "write lost", "pieces nobody gave"],
+        ),
+        row("without its last FENCE", &cells(wrong)),
+        row("with it", &cells(right)),
+    ];
+    print(&table("Noticed: the old link comes back", &rows));
+    assert!(right.tried > 0 && right.lost == 0 && right.lies == 0);
+    assert!(wrong.lost > 0 && wrong.lies > 0);
+}
+
+/// "Old units counted free for the write that replaces them." (01)
+#[test]
+fn a_planner_that_counts_old_units_as_free_is_caught() {
+    let rules = wrong::GreedyPlanner {
+        checker_agrees: true,
+    };
+    notice("old units counted free", &rules, &[NEITHER, LEDGER]);
+    let rules = wrong::Checker(wrong::with_old_units_free);
+    notice(
+        "old units free to the checker only",
+        &rules,
+        &[NEITHER, LEDGER],
+    );
+
+    // The library's checker lets no such plan pass.
+    let rules = wrong::GreedyPlanner {
+        checker_agrees: false,
+    };
+    let harm = |seen: &Violation| [NEITHER, LEDGER].contains(&seen.name());
+    let mut figures = Figures::default();
+    let case = lists::run(&rules, VOLUME_64K, 100, seed(), &harm, &mut figures);
+    assert!(case.is_none(), "the right checker refuses");
+    assert!(figures.hands[Hand::Planner.index()][1] > 0, "and has to");
+}
+
+/// "Rebuilding the free set from all maps, not the named ones: dead maps leak
+/// units." (01) No piece is lost by that, but units are: the free set is not
+/// what no named map holds, and the planner says 9 on a volume with room for
+/// any one write.
+#[test]
+fn a_free_set_from_all_maps_is_caught() {
+    notice(
+        "free set from all maps",
+        &wrong::AllMaps,
+        &["free set", "planner"],
+    );
+    let no_room =
+        |seen: &Violation| matches!(seen, Violation::Planner { answer, .. } if answer.number == 9);
+    notice_at_random("no room", &wrong::AllMaps, &no_room);
+}
+
+/// "On a double claim, letting the later chunk win." (01)
+#[test]
+fn a_later_chunk_that_wins_a_double_claim_is_caught() {
+    let rules = wrong::Checker(wrong::with_the_later_chunk_winning);
+    notice("the later chunk wins", &rules, &[TWO_OWNERS, LOAD, LEDGER]);
+
+    // Chunks 0 and 3 both name map 0: "6 with 0 and 3" (01).
+    let simulator = Simulator::new(&Library, VOLUME_64K);
+    let mut volume = Volume::formatted(&VOLUME_64K, || 0);
+    volume.units[7] = 77;
+    put_entry(&mut volume.image, 0, 0);
+    put_word(&mut volume.image, VOLUME_64K.word_at(0, 0), 7);
+    volume.ledger[0] = vec![77];
+    let mut violations = Vec::new();
+    simulator.verify(&volume.image, &mut violations);
+    simulator.verify_pieces(&volume, &mut violations);
+    assert_eq!(violations, [], "a sound volume");
+
+    put_entry(&mut volume.image, 3, 0);
+    let answer = ffi::load(&volume.image, &mut [0; LOAD_WORDS]);
+    assert_eq!([answer.number, answer.place, answer.second], [6, 0, 3]);
+    simulator.verify(&volume.image, &mut violations);
+    assert!(violations.iter().any(|seen| seen.name() == TWO_OWNERS));
+
+    // Taking map 0 from chunk 0 makes the image load, and both chunks lie.
+    violations.clear();
+    wrong::let_the_later_chunk_win(&VOLUME_64K, &mut volume.image);
+    simulator.verify(&volume.image, &mut violations);
+    assert_eq!(violations, [], "it loads again");
+    simulator.verify_pieces(&volume, &mut violations);
+    let lies: Vec<&str> = violations.iter().map(Violation::name).collect();
+    assert_eq!(lies, [LEDGER, LEDGER]);
+}
+
+/// "Everything earlier is durable before anything later starts." (01)
+#[test]
+fn a_landing_that_ignores_fences_is_caught() {
+    let kinds = [NO_MAP, NEITHER, LEDGER, UNFINISHED, LOAD];
+    notice("a landing without fences", &wrong::Unfenced, &kinds);
+}
+
+/// "A word lands whole" (01).
+#[test]
+fn words_that_land_by_half_are_caught() {
+    let kinds = ["bad link", NEITHER, LEDGER, LOAD];
+    notice("words that land by half", &wrong::TornWords, &kinds);
+}
+
+/// "the trailer's bytes never change" (Decision 24), and "where all n have
+/// landed, that is byte for byte what carrying out n steps leaves" (01).
+#[test]
+fn words_stored_one_place_too_far_are_caught() {
+    let kinds = ["trailer changed", "not as carried out", LOAD];
+    notice("words one place too far", &wrong::WordsTooFar, &kinds);
+}
+
+/// "one that accepts all" (01).
+#[test]
+fn a_checker_that_accepts_all_is_caught() {
+    let rules = wrong::Checker(wrong::of_rule_1_only);
+    let kinds = [TWO_OWNERS, "map with two owners", NO_MAP, LEDGER, LOAD];
+    notice("a checker of rule 1 only", &rules, &kinds);
+}
+
+/// "a carrier that does nothing"; "one that stores everything at step one"
+/// (01); and one that stores before it refuses.
+#[test]
+fn wrong_carriers_are_caught() {
+    notice(
+        "a carrier that does nothing",
+        &wrong::Carrier::Idle,
+        &[CARRIER],
+    );
+    notice(
+        "a carrier that stores all at step one",
+        &wrong::Carrier::AllAtOnce,
+        &[CARRIER],
+    );
+    notice(
+        "a carrier that stores, then refuses",
+        &wrong::Carrier::StoresFirst,
+        &[CARRIER],
+    );
+    let changed = |seen: &Violation| *seen == Violation::RefusedChanged;
+    notice_at_random("refused", &wrong::Carrier::StoresFirst, &changed);
+}

@@ -1,0 +1,539 @@
+//! Small volumes, exhaustively: every state that event lists can reach, and
+//! from each of them every request, every point and every subset.
+
+use std::collections::HashSet;
+use std::ops::AddAssign;
+
+use sumbilak_reference::inputs::{
+    assemble, decode, encode, Fields, Shape, FENCE as FENCE_STEP, X32,
+};
+
+use crate::event::{Event, Hand, Leftovers, Payload, Request, DATA};
+use crate::figures::Figures;
+use crate::lists::Case;
+use crate::plans::{replace_map, replace_unit};
+use crate::rules::{carry_step, first, land, landed, Rules};
+use crate::simulate::{Due, Simulator, Violation};
+use crate::volume::{Held, Reading, Volume};
+
+/// Which plans are tried for a request.
+#[derive(Clone, Copy, Debug, PartialEq, Eq)]
+pub enum Plans {
+    /// The planner's, and one on the highest free units and map instead of the
+    /// lowest, MAP before DATA, both falling.
+    Two,
+    /// The planner's order on every choice of free units and free map. Order
+    /// and further fences make no more states: at the last point before LINK's
+    /// fence every subset of all DATA and MAP steps comes up anyway, and a
+    /// fence only takes subsets away.
+    EveryChoice,
+    /// As `Two`, and every plan that one edit makes of the planner's, for as
+    /// long as the checker accepts it.
+    Edits,
+}
+
+impl Plans {
+    pub fn name(self) -> &'static str {
+        match self {
+            Plans::Two => "two",
+            Plans::EveryChoice => "every choice",
+            Plans::Edits => "two and edits",
+        }
+    }
+}
+
+pub struct Scope {
+    pub shape: Shape,
+    /// Writes, by chunk and size, that are finished before anything is tried.
+    pub start: &'static [(u64, u64)],
+    pub plans: Plans,
+    /// Events in a list at most; None goes on until nothing new is reached,
+    /// and so covers lists of every length.
+    pub depth: Option<usize>,
+}
+
+impl Scope {
+    /// Whether contents are renamed from one event to the next; see
+    /// [`rename`].
+    fn renames(&self) -> bool {
+        self.depth.is_none()
+    }
+}
+
+#[derive(Clone, Debug, Default)]
+pub struct Tally {
+    pub states: u64,
+    /// States from which events were tried.
+    pub expanded: u64,
+    /// Events of the longest list that was needed to reach a state.
+    pub deepest: usize,
+    pub accepted: u64,
+    pub refused: u64,
+    pub points: u64,
+    pub subsets: u64,
+    pub events: u64,
+    pub carried: u64,
+    pub violations: u64,
+}
+
+impl Tally {
+    /// The figures as a table shows them.
+    pub fn cells(&self) -> [u64; 10] {
+        [
+            self.states,
+            self.expanded,
+            self.deepest as u64,
+            self.accepted,
+            self.refused,
+            self.points,
+            self.subsets,
+            self.events,
+            self.carried,
+            self.violations,
+        ]
+    }
+}
+
+impl AddAssign<&Tally> for Tally {
+    fn add_assign(&mut self, other: &Tally) {
+        self.states += other.states;
+        self.expanded += other.expanded;
+        self.deepest = self.deepest.max(other.deepest);
+        self.accepted += other.accepted;
+        self.refused += other.refused;
+        self.points += other.points;
+        self.subsets += other.subsets;
+        self.events += other.events;
+        self.carried += other.carried;
+        self.violations += other.violations;
+    }
+}
+
+/// Content of a unit that no chunk holds, after renaming.
+const STALE: u64 = 0;
+/// Base of the payload where contents are renamed; elsewhere its multiples.
+const NEW: u64 = 1 << 32;
+/// Multiples of it are the bases of what was written before the start.
+const EARLIER: u64 = 1 << 16;
+
+/// The tag of an old piece after renaming.
+fn old(chunk: usize, piece: usize) -> u64 {
+    (64 * (chunk + 1) + piece) as u64
+}
+
+/// Renames the contents, so that there are no more states than images. Nothing
+/// is lost: the library sees no content, and contents are only compared with
+/// the ledger and with the payload to come. A held unit has by now been seen to
+/// hold its piece of the ledger, whatever that is called; the content of a
+/// free one is in no ledger, and must not be taken for a piece to come.
+fn rename(shape: &Shape, volume: &mut Volume) {
+    volume.units.fill(STALE);
+    for chunk in 0..shape.c as usize {
+        let held = Held::of(shape, &volume.image, chunk as u64);
+        for (piece, &unit) in held.units().iter().enumerate() {
+            volume.units[unit] = old(chunk, piece);
+            volume.ledger[chunk][piece] = old(chunk, piece);
+        }
+    }
+}
+
+/// What tells two states apart.
+fn key(volume: &Volume, image_only: bool, key: &mut Vec<u8>) {
+    key.clear();
+    key.extend_from_slice(&volume.image);
+    if !image_only {
+        let mut put = |tag: u64| key.extend_from_slice(&tag.to_le_bytes());
+        volume.units.iter().copied().for_each(&mut put);
+        for pieces in &volume.ledger {
+            put(pieces.len() as u64);
+            pieces.iter().copied().for_each(&mut put);
+        }
+    }
+}
+
+struct Node {
+    volume: Volume,
+    depth: usize,
+    /// The node and the event that led here first.
+    from: Option<(usize, Event)>,
+}
+
+struct Explorer<'a, R> {
+    simulator: &'a Simulator<'a, R>,
+    scope: &'a Scope,
+    tells: &'a dyn Fn(&Violation) -> bool,
+    nodes: Vec<Node>,
+    known: HashSet<Vec<u8>>,
+    tally: Tally,
+    // Buffers.
+    next: Volume,
+    key: Vec<u8>,
+    violations: Vec<Violation>,
+}
+
+/// Every write by its number of units, and the discard, of every chunk.
+fn requests(shape: &Shape) -> impl Iterator<Item = Request> {
+    let sizes = (1..=shape.p).map(|k| Some(4096 * k - 1)).chain([None]);
+    let sizes: Vec<Option<u64>> = sizes.collect();
+    (0..shape.c).flat_map(move |chunk| {
+        let request = move |size| Request { chunk, size };
+        sizes.clone().into_iter().map(request)
+    })
+}
+
+/// Every way to take `k` of the items, in every order.
+fn arrangements(items: &[u64], k: usize) -> Vec<Vec<u64>> {
+    if k == 0 {
+        return vec![Vec::new()];
+    }
+    let mut all = Vec::new();
+    for (at, &item) in items.iter().enumerate() {
+        let mut others = items.to_vec();
+        others.remove(at);
+        for mut rest in arrangements(&others, k - 1) {
+            rest.insert(0, item);
+            all.push(rest);
+        }
+    }
+    all
+}
+
+/// Every plan that one edit makes: a step left out, moved, swapped, twice, a
+/// fence put in, a shorter plan, any field set to any number in range, and a
+/// unit or the map exchanged for any other wherever it stands.
+fn edits(shape: &Shape, steps: &[Fields]) -> Vec<Vec<Fields>> {
+    let mut all = Vec::new();
+    let mut put = |edited: Vec<Fields>| {
+        if edited != steps {
+            all.push(edited);
+        }
+    };
+    for at in 0..steps.len() {
+        let mut without = steps.to_vec();
+        let step = without.remove(at);
+        put(without.clone());
+        put(steps[..at].to_vec());
+        for to in 0..=without.len() {
+            let mut moved = without.clone();
+            moved.insert(to, step);
+            put(moved);
+        }
+        for to in 0..=steps.len() {
+            let mut twice = steps.to_vec();
+            twice.insert(to, step);
+            put(twice);
+        }
+        for other in 0..at {
+            let mut swapped = steps.to_vec();
+            swapped.swap(at, other);
+            put(swapped);
+        }
+        let most = [4, shape.n.max(shape.m), shape.p, shape.n.max(shape.m)];
+        for (field, most) in most.into_iter().enumerate() {
+            for value in (0..=most as u32).chain([X32]) {
+                let mut other = steps.to_vec();
+                other[at][field] = value;
+                put(other);
+            }
+        }
+    }
+    for to in 0..=steps.len() {
+        let mut fenced = steps.to_vec();
+        fenced.insert(to, FENCE_STEP);
+        put(fenced);
+    }
+    for step in steps.iter().filter(|step| step[0] == DATA) {
+        for unit in 0..shape.n as u32 {
+            let mut other = steps.to_vec();
+            replace_unit(&mut other, step[1], unit);
+            put(other);
+        }
+    }
+    for map in 0..shape.m as u32 {
+        let mut other = steps.to_vec();
+        replace_map(&mut other, map);
+        put(other);
+    }
+    all
+}
+
+impl<R: Rules> Explorer<'_, R> {
+    /// The plans for a request and who made them. The planner is held to 01 on
+    /// the way.
+    fn plans(&mut self, volume: &Volume, request: Request) -> Vec<(Vec<u8>, Hand)> {
+        let shape = &self.simulator.shape;
+        let image = &volume.image;
+        let planned = self.simulator.plan(image, request, &mut self.violations);
+        let Some(planned) = planned else {
+            return Vec::new();
+        };
+        let planned_steps = decode(&planned);
+        let mut plans = vec![(planned, Hand::Planner)];
+        if request.size.is_some() {
+            let reading = Reading::of(shape, image);
+            let units: Vec<u64> = reading.free_units().collect();
+            let maps: Vec<u64> = reading.free_maps().collect();
+            let k = request.k() as usize;
+            let chunk = request.chunk;
+            if self.scope.plans == Plans::EveryChoice {
+                for units in arrangements(&units, k) {
+                    for &map in &maps {
+                        let steps = assemble(shape, chunk, &units, map);
+                        if steps != planned_steps {
+                            plans.push((encode(&steps), Hand::Other));
+                        }
+                    }
+                }
+            } else if units.len() >= k {
+                let highest: Vec<u64> = units.iter().rev().copied().take(k).collect();
+                let map = *maps.last().expect("more maps than chunks");
+                let mut steps = assemble(shape, chunk, &highest, map);
+                let fence = steps.len() - 3;
+                steps[..fence].reverse();
+                plans.push((encode(&steps), Hand::Other));
+            }
+        }
+        if self.scope.plans == Plans::Edits {
+            let edited = edits(shape, &planned_steps);
+            plans.extend(edited.iter().map(|steps| (encode(steps), Hand::Mutated)));
+        }
+        plans
+    }
+
+    /// Whether a violation was found that tells.
+    fn failed(&mut self) -> bool {
+        self.violations.retain(self.tells);
+        !self.violations.is_empty()
+    }
+
+    /// Everything that can become of one plan. False if a violation was found:
+    /// the event then is the one that it came with.
+    fn run_plan(&mut self, at: usize, volume: &Volume, event: &mut Event) -> bool {
+        let simulator = self.simulator;
+        let Simulator { rules, shape, .. } = simulator;
+        let image = &volume.image;
+        let answer = simulator.check(image, event.request, &event.plan, &mut self.violations);
+        if answer.number != 0 {
+            self.tally.refused += 1;
+            if event.hand != Hand::Mutated {
+                let due = Due::Pass;
+                self.violations.push(Violation::Verdict { answer, due });
+            }
+            // "Where checking, or carrying out n steps, is refused, both
+            // stay." (01)
+            let mut copy = image.clone();
+            let n = event.plan.len() as u64 / 16;
+            let carry = rules.carry(shape, &mut copy, event.request, &event.plan, n);
+            if carry != answer || copy != *image {
+                self.violations.push(Violation::RefusedChanged);
+            }
+            return !self.failed();
+        }
+        self.tally.accepted += 1;
+        let steps = decode(&event.plan);
+        self.tally.carried += simulator.carry_each(image, event, &steps, &mut self.violations);
+        if self.failed() {
+            return false;
+        }
+
+        let of_data = |&at: &usize| steps[at][0] == DATA;
+        let data: u64 = (0..steps.len()).filter(of_data).map(|at| 1 << at).sum();
+        let garbage = Leftovers::Garbage(self.nodes[at].depth as u64);
+        let mut carried = image.clone();
+        for n in 0..=steps.len() {
+            self.tally.points += 1;
+            if n > 0 {
+                carry_step(shape, &mut carried, &steps[n - 1]);
+            }
+            event.n = n as u64;
+            let fenced = rules.fenced(&steps, n);
+            for subset in 0..1 << (n - fenced) {
+                self.tally.subsets += 1;
+                event.choice = subset << fenced;
+                let landed = landed(*rules, &steps, n, event.choice);
+                let all_landed = (landed == first(n)).then_some(&carried[..]);
+                let choices = if data & !landed == 0 { 1 } else { 2 };
+                for leftovers in [Leftovers::Unchanged, garbage].into_iter().take(choices) {
+                    event.leftovers = leftovers;
+                    if !self.run_event(at, volume, event, &steps, landed, all_landed) {
+                        return false;
+                    }
+                }
+            }
+        }
+        true
+    }
+
+    /// One event; a state that is new becomes a node.
+    fn run_event(
+        &mut self,
+        at: usize,
+        volume: &Volume,
+        event: &Event,
+        steps: &[Fields],
+        landed: u64,
+        all_landed: Option<&[u8]>,
+    ) -> bool {
+        let simulator = self.simulator;
+        let shape = &simulator.shape;
+        self.tally.events += 1;
+        let next = &mut self.next;
+        let violations = &mut self.violations;
+        next.clone_from(volume);
+        land(simulator.rules, shape, next, event, steps, landed);
+        simulator.settle(volume, next, event, steps, landed, violations);
+        simulator.verify_pieces(next, violations);
+        if all_landed.is_some_and(|carried| carried != next.image) {
+            violations.push(Violation::NotAsCarried { n: event.n });
+        }
+        key(next, self.scope.renames(), &mut self.key);
+        let is_known = self.known.contains(&self.key);
+        if !is_known {
+            simulator.verify(&next.image, violations);
+        }
+        let harmed = violations.iter().any(Violation::harms);
+        if self.failed() {
+            return false;
+        }
+        if !is_known && !harmed {
+            let mut volume = self.next.clone();
+            if self.scope.renames() {
+                rename(shape, &mut volume);
+            }
+            self.known.insert(self.key.clone());
+            self.nodes.push(Node {
+                volume,
+                depth: self.nodes[at].depth + 1,
+                from: Some((at, event.clone())),
+            });
+        }
+        true
+    }
+
+    /// The list of events that leads to a node, and on to this event.
+    fn case(&self, at: usize, last: Option<Event>) -> Case {
+        let mut events = Vec::from_iter(last);
+        let mut at = at;
+        while let Some((from, event)) = &self.nodes[at].from {
+            events.insert(0, event.clone());
+            at = *from;
+        }
+        for (event, number) in events.iter_mut().zip(1..) {
+            event.payload.base = number * NEW;
+        }
+        Case {
+            shape: self.simulator.shape,
+            origin: "found exhaustively".to_string(),
+            start: self.nodes[0].volume.clone(),
+            events,
+            violations: self.violations.clone(),
+        }
+    }
+
+    fn explore(&mut self) -> Option<Case> {
+        let mut at = 0;
+        while at < self.nodes.len() {
+            let depth = self.nodes[at].depth;
+            self.tally.states += 1;
+            self.tally.deepest = depth;
+            if self.scope.depth != Some(depth) {
+                self.tally.expanded += 1;
+                let volume = self.nodes[at].volume.clone();
+                for request in requests(&self.simulator.shape) {
+                    let plans = self.plans(&volume, request);
+                    if self.failed() {
+                        return Some(self.case(at, None));
+                    }
+                    for (plan, hand) in plans {
+                        let number = if self.scope.renames() { 1 } else { depth + 1 };
+                        let mut event = Event {
+                            request,
+                            payload: Payload {
+                                base: number as u64 * NEW,
+                            },
+                            plan,
+                            hand,
+                            n: 0,
+                            choice: 0,
+                            leftovers: Leftovers::Unchanged,
+                        };
+                        if !self.run_plan(at, &volume, &mut event) {
+                            return Some(self.case(at, Some(event)));
+                        }
+                    }
+                }
+            }
+            at += 1;
+        }
+        None
+    }
+}
+
+/// The state that a scope starts from.
+fn start<R: Rules>(simulator: &Simulator<R>, scope: &Scope) -> Volume {
+    let shape = &scope.shape;
+    let mut tag = STALE;
+    let mut volume = Volume::formatted(shape, || {
+        tag += u64::from(!scope.renames());
+        tag
+    });
+    for (number, &(chunk, size)) in (1..).zip(scope.start) {
+        let request = Request {
+            chunk,
+            size: Some(size),
+        };
+        let mut violations = Vec::new();
+        let plan = simulator.plan(&volume.image, request, &mut violations);
+        let plan = plan.expect("there is room");
+        let event = Event {
+            request,
+            payload: Payload {
+                base: number * EARLIER,
+            },
+            n: plan.len() as u64 / 16,
+            plan,
+            hand: Hand::Planner,
+            choice: 0,
+            leftovers: Leftovers::Unchanged,
+        };
+        let figures = &mut Figures::default();
+        simulator.event(&mut volume, &event, figures, &mut violations);
+    }
+    if scope.renames() {
+        rename(shape, &mut volume);
+    }
+    volume
+}
+
+/// Explores a volume from the image that format writes, or from the scope's
+/// start. Answers what was tried, and the first case that ended in a violation
+/// that tells.
+pub fn explore<R: Rules>(
+    rules: &R,
+    scope: &Scope,
+    tells: &dyn Fn(&Violation) -> bool,
+) -> (Tally, Option<Case>) {
+    let simulator = Simulator::new(rules, scope.shape);
+    let start = start(&simulator, scope);
+    let mut explorer = Explorer {
+        simulator: &simulator,
+        scope,
+        tells,
+        nodes: Vec::new(),
+        known: HashSet::new(),
+        tally: Tally::default(),
+        next: start.clone(),
+        key: Vec::new(),
+        violations: Vec::new(),
+    };
+    key(&start, scope.renames(), &mut explorer.key);
+    explorer.known.insert(explorer.key.clone());
+    explorer.nodes.push(Node {
+        volume: start,
+        depth: 0,
+        from: None,
+    });
+    let case = explorer.explore();
+    explorer.tally.violations = u64::from(case.is_some());
+    (explorer.tally, case)
+}

@@ -1,0 +1,459 @@
+//! Plans from any hand: legal ones that the planner would not make, legal ones
+//! with one defect, and legal ones changed at random.
+
+use sumbilak_reference::inputs::{encode, entry, Fields, Shape, FENCE as FENCE_STEP, X, X32};
+use sumbilak_reference::rng::Rng;
+
+use crate::event::{Request, DATA, FENCE, LINK, MAP};
+use crate::volume::{Held, Reading};
+
+/// "Whole steps, at most 64" (01).
+const MOST_STEPS: usize = 64;
+
+/// A volume that plans are made for.
+pub struct Ground<'a> {
+    pub shape: &'a Shape,
+    pub image: &'a [u8],
+    pub reading: &'a Reading,
+}
+
+impl Ground<'_> {
+    fn is_mapped(&self, chunk: u64) -> bool {
+        entry(self.image, chunk) != X
+    }
+}
+
+fn fences(rng: &mut Rng, least: usize, most: usize) -> Vec<Fields> {
+    vec![FENCE_STEP; rng.between(least as u64, most.max(least) as u64) as usize]
+}
+
+/// A legal plan: any free units, any free map, DATA and MAP in any order, and
+/// fences wherever rule 5 leaves room for them. None if too few units are
+/// free.
+pub fn legal(rng: &mut Rng, ground: &Ground, request: Request) -> Option<Vec<Fields>> {
+    let chunk = request.chunk as u32;
+    if request.size.is_none() {
+        if !ground.is_mapped(request.chunk) {
+            return Some(Vec::new());
+        }
+        let most = rng.pick(&[0, 0, 2, 31]);
+        let mut steps = fences(rng, 0, most);
+        steps.push([LINK, chunk, 0, X32]);
+        steps.extend(fences(rng, 1, most));
+        return Some(steps);
+    }
+
+    let k = request.k() as usize;
+    let mut units: Vec<u64> = ground.reading.free_units().collect();
+    if units.len() < k {
+        return None;
+    }
+    rng.shuffle(&mut units);
+    units.truncate(k);
+    let maps: Vec<u64> = ground.reading.free_maps().collect();
+    let map = rng.pick(&maps) as u32;
+
+    let mut steps: Vec<Fields> = (0..)
+        .zip(&units)
+        .map(|(piece, &unit)| [DATA, unit as u32, piece, 0])
+        .collect();
+    steps.extend((0..ground.shape.p as u32).map(|word| {
+        let value = units.get(word as usize).map_or(X32, |&unit| unit as u32);
+        [MAP, map, word, value]
+    }));
+    match rng.below(4) {
+        0 => {}
+        1 => steps.reverse(),
+        _ => rng.shuffle(&mut steps),
+    }
+    let spare = MOST_STEPS - steps.len() - 3;
+    let extra = match rng.below(6) {
+        0..=2 => 0,
+        3 | 4 => rng.index(4).min(spare),
+        _ => spare,
+    };
+    let before = rng.index(extra + 1);
+    for _ in 0..before {
+        steps.insert(rng.index(steps.len() + 1), FENCE_STEP);
+    }
+    steps.push(FENCE_STEP);
+    let between = rng.index(extra - before + 1);
+    steps.extend(vec![FENCE_STEP; between]);
+    steps.push([LINK, chunk, 0, map]);
+    steps.extend(vec![FENCE_STEP; extra - before - between + 1]);
+    Some(steps)
+}
+
+/// Positions of the steps of one kind.
+fn of_kind(steps: &[Fields], kind: u32) -> Vec<usize> {
+    (0..steps.len())
+        .filter(|&at| steps[at][0] == kind)
+        .collect()
+}
+
+/// Puts a step in somewhere.
+fn insert(rng: &mut Rng, steps: &mut Vec<Fields>, step: Fields) {
+    steps.insert(rng.index(steps.len() + 1), step);
+}
+
+/// Puts one unit in another's place, in DATA and in MAP alike.
+pub fn replace_unit(steps: &mut [Fields], old: u32, new: u32) {
+    for step in steps {
+        match step[0] {
+            DATA if step[1] == old => step[1] = new,
+            MAP if step[3] == old => step[3] = new,
+            _ => {}
+        }
+    }
+}
+
+/// Puts another map in, in MAP and in LINK alike.
+pub fn replace_map(steps: &mut [Fields], new: u32) {
+    for step in steps {
+        match step[0] {
+            MAP => step[1] = new,
+            LINK if step[3] != X32 => step[3] = new,
+            _ => {}
+        }
+    }
+}
+
+/// Gives a legal plan one defect, and names the lowest rule that breaks. None
+/// if this volume has no room for the defect that was drawn.
+pub fn damage(
+    rng: &mut Rng,
+    ground: &Ground,
+    request: Request,
+    steps: &[Fields],
+) -> Option<(Vec<u8>, u64)> {
+    let mut steps = steps.to_vec();
+    if rng.chance(20) {
+        return damage_form(rng, ground.shape, steps).map(|plan| (plan, 1));
+    }
+    let rule = if request.size.is_some() {
+        damage_write(rng, ground, request, &mut steps)?
+    } else {
+        damage_discard(rng, ground, request, &mut steps)?
+    };
+    // Padded to the limit by its fences, the plan may be too long by now.
+    (steps.len() <= MOST_STEPS).then(|| (encode(&steps), rule))
+}
+
+/// Rule 1: "Whole steps, at most 64, of the four kinds", each field in its
+/// range.
+fn damage_form(rng: &mut Rng, shape: &Shape, mut steps: Vec<Fields>) -> Option<Vec<u8>> {
+    match rng.below(4) {
+        0 => {
+            let mut plan = encode(&steps);
+            let part = rng.between(1, 15) as usize;
+            plan.resize(plan.len() + part, rng.pick(&[0, 4]));
+            return Some(plan);
+        }
+        1 => steps.resize(MOST_STEPS + 1, FENCE_STEP),
+        _ => {
+            let at = rng.index(steps.len().checked_sub(1)? + 1);
+            let Shape { p, c, m, n } = *shape;
+            let past: [(usize, u64); 3] = match steps[at][0] {
+                DATA => [(1, n), (2, p), (3, 1)],
+                MAP => [(1, m), (2, p), (3, n)],
+                LINK => [(1, c), (2, 1), (3, m)],
+                _ => [(1, 1), (2, 1), (3, 1)],
+            };
+            let (field, least) = rng.pick(&past);
+            match rng.below(4) {
+                0 => steps[at][0] = rng.pick(&[0, 5, X32]),
+                1 => steps[at][field] = X32 - 1,
+                _ => steps[at][field] = least as u32,
+            }
+        }
+    }
+    Some(encode(&steps))
+}
+
+fn damage_write(
+    rng: &mut Rng,
+    ground: &Ground,
+    request: Request,
+    steps: &mut Vec<Fields>,
+) -> Option<u64> {
+    let Shape { p, c, m, .. } = *ground.shape;
+    let k = request.k();
+    let chunk = request.chunk;
+    let data = of_kind(steps, DATA);
+    let maps = of_kind(steps, MAP);
+    let link = of_kind(steps, LINK)[0];
+    let one_data = rng.pick(&data);
+    let one_map = rng.pick(&maps);
+    let some_unit = steps[one_data][1];
+    Some(match rng.below(19) {
+        // "Old units counted free for the write that replaces them." (01)
+        0 => {
+            let own = Held::of(ground.shape, ground.image, chunk);
+            let unit = rng.pick_any(own.units())?;
+            replace_unit(steps, some_unit, unit as u32);
+            2
+        }
+        1 => {
+            let others: Vec<u64> = ground.reading.units_of_others(chunk).collect();
+            let unit = rng.pick_any(&others)?;
+            replace_unit(steps, some_unit, unit as u32);
+            2
+        }
+        2 => {
+            let other = steps[rng.pick(&data)][1];
+            if other == some_unit {
+                return None;
+            }
+            replace_unit(steps, some_unit, other);
+            2
+        }
+        3 => {
+            steps.remove(one_data);
+            2
+        }
+        4 => {
+            let step = steps[one_data];
+            steps.insert(rng.index(link + 1), step);
+            2
+        }
+        5 => {
+            let used: Vec<u32> = data.iter().map(|&at| steps[at][1]).collect();
+            let mut spare = ground.reading.free_units();
+            let unit = spare.find(|unit| !used.contains(&(*unit as u32)))?;
+            if k == p {
+                return None;
+            }
+            steps.insert(rng.index(link + 1), [DATA, unit as u32, k as u32, 0]);
+            2
+        }
+        6 => {
+            steps.remove(one_map);
+            3
+        }
+        7 => {
+            let step = steps[one_map];
+            steps.insert(rng.index(link + 1), step);
+            3
+        }
+        8 => {
+            let named: Vec<u64> = ground.reading.named_maps().collect();
+            replace_map(steps, rng.pick_any(&named)? as u32);
+            3
+        }
+        9 => {
+            // Word 0 is a unit and no other word has the same value.
+            let zero = maps.iter().copied().find(|&at| steps[at][2] == 0)?;
+            let other = maps.iter().copied().find(|&at| steps[at][2] != 0)?;
+            let value = steps[zero][3];
+            steps[zero][3] = steps[other][3];
+            steps[other][3] = value;
+            3
+        }
+        10 => {
+            steps[one_map][1] = (steps[one_map][1] + 1) % m as u32;
+            3
+        }
+        11 => {
+            steps.remove(link);
+            4
+        }
+        12 => {
+            let step = steps[link];
+            steps.insert(link, step);
+            4
+        }
+        13 => {
+            if c == 1 {
+                return None;
+            }
+            steps[link][1] = (steps[link][1] + 1) % c as u32;
+            4
+        }
+        14 => {
+            steps[link][3] = rng.pick(&[X32, (steps[link][3] + 1) % m as u32]);
+            4
+        }
+        // "LINK before the fence: a cut shows a map that isn't there." (01)
+        15 | 16 => {
+            let from = (0..link).rev().find(|&at| steps[at][0] != FENCE)? + 1;
+            steps.drain(from..link);
+            5
+        }
+        17 => {
+            // A DATA or MAP step after LINK, before the last FENCE.
+            let late = steps.remove(rng.pick(&[one_data, one_map]));
+            let at = of_kind(steps, LINK)[0] + 1;
+            steps.insert(at, late);
+            5
+        }
+        // "No last FENCE: the next plan reuses old units while the old link
+        // may come back." (01)
+        _ => {
+            steps.truncate(link + 1);
+            5
+        }
+    })
+}
+
+fn damage_discard(
+    rng: &mut Rng,
+    ground: &Ground,
+    request: Request,
+    steps: &mut Vec<Fields>,
+) -> Option<u64> {
+    let Shape { p, c, m, n } = *ground.shape;
+    let mapped = ground.is_mapped(request.chunk);
+    let chunk = request.chunk as u32;
+    Some(match rng.below(6) {
+        0 => {
+            let step = [DATA, rng.below(n) as u32, rng.below(p) as u32, 0];
+            insert(rng, steps, step);
+            2
+        }
+        1 => {
+            let step = [MAP, rng.below(m) as u32, rng.below(p) as u32, X32];
+            insert(rng, steps, step);
+            3
+        }
+        2 => {
+            insert(rng, steps, [LINK, chunk, 0, X32]);
+            4
+        }
+        3 if mapped => {
+            steps.retain(|step| step[0] != LINK);
+            4
+        }
+        4 if mapped => {
+            let link = of_kind(steps, LINK)[0];
+            if c > 1 && rng.chance(50) {
+                steps[link][1] = (chunk + 1) % c as u32;
+            } else {
+                steps[link][3] = rng.below(m) as u32;
+            }
+            4
+        }
+        _ => {
+            if mapped {
+                let link = of_kind(steps, LINK)[0];
+                steps.truncate(link + 1);
+            } else {
+                steps.push(FENCE_STEP);
+            }
+            5
+        }
+    })
+}
+
+/// Some step with its fields in range.
+fn loose_step(rng: &mut Rng, ground: &Ground) -> Fields {
+    let Shape { p, c, m, n } = *ground.shape;
+    let mut below = |limit: u64| rng.below(limit) as u32;
+    let (unit, piece, map, chunk) = (below(n), below(p), below(m), below(c));
+    match rng.below(4) {
+        0 => [DATA, unit, piece, 0],
+        1 => [MAP, map, piece, rng.pick(&[unit, X32])],
+        2 => [LINK, chunk, 0, rng.pick(&[map, X32])],
+        _ => FENCE_STEP,
+    }
+}
+
+/// One change, with nothing said about whether the plan is still legal.
+fn change(rng: &mut Rng, ground: &Ground, request: Request, steps: &mut Vec<Fields>) {
+    let Shape { p, c, m, n } = *ground.shape;
+    let len = steps.len();
+    if len == 0 {
+        let step = loose_step(rng, ground);
+        return steps.push(step);
+    }
+    let at = rng.index(len);
+    match rng.below(14) {
+        0 | 1 => {
+            let other = rng.index(len);
+            steps.swap(at, other);
+        }
+        2 => {
+            let step = steps.remove(at);
+            insert(rng, steps, step);
+        }
+        3 => {
+            // The steps up to some point in another order.
+            rng.shuffle(&mut steps[..at]);
+        }
+        4 => {
+            steps.remove(at);
+        }
+        5 => {
+            let step = steps[at];
+            insert(rng, steps, step);
+        }
+        6 => insert(rng, steps, FENCE_STEP),
+        7 => {
+            let of_fences = of_kind(steps, FENCE);
+            if let Some(at) = rng.pick_any(&of_fences) {
+                steps.remove(at);
+            }
+        }
+        8 => {
+            let limits = match steps[at][0] {
+                DATA => [n, p, 1],
+                MAP => [m, p, n],
+                LINK => [c, 1, m],
+                _ => [1, 1, 1],
+            };
+            let field = rng.index(3);
+            steps[at][1 + field] = if rng.chance(15) {
+                X32
+            } else {
+                rng.below(limits[field]) as u32
+            };
+        }
+        9 | 10 => {
+            let data = of_kind(steps, DATA);
+            let Some(at) = rng.pick_any(&data) else {
+                return;
+            };
+            let own = Held::of(ground.shape, ground.image, request.chunk);
+            let free: Vec<u64> = ground.reading.free_units().collect();
+            let new = match rng.below(3) {
+                0 => rng.pick_any(own.units()).map(|unit| unit as u64),
+                1 => rng.pick_any(&free),
+                _ => None,
+            };
+            let new = new.unwrap_or_else(|| rng.below(n));
+            let old = steps[at][1];
+            replace_unit(steps, old, new as u32);
+        }
+        11 => {
+            let map = rng.below(m) as u32;
+            replace_map(steps, map);
+        }
+        12 => {
+            // Two pieces' units the other way round, in DATA only.
+            let data = of_kind(steps, DATA);
+            let (a, b) = (rng.pick_any(&data), rng.pick_any(&data));
+            if let (Some(a), Some(b)) = (a, b) {
+                let unit = steps[a][1];
+                steps[a][1] = steps[b][1];
+                steps[b][1] = unit;
+            }
+        }
+        _ => {
+            let step = loose_step(rng, ground);
+            insert(rng, steps, step);
+        }
+    }
+}
+
+/// A plan changed in one to three places, now and then in a bit of its bytes.
+pub fn mutate(rng: &mut Rng, ground: &Ground, request: Request, steps: &[Fields]) -> Vec<u8> {
+    let mut steps = steps.to_vec();
+    for _ in 0..rng.pick(&[1, 1, 1, 2, 3]) {
+        change(rng, ground, request, &mut steps);
+    }
+    let mut plan = encode(&steps);
+    if rng.chance(6) && !plan.is_empty() {
+        let at = rng.index(plan.len());
+        plan[at] ^= 1 << rng.below(8);
+    }
+    plan
+}

@@ -1,0 +1,534 @@
+//! One event on a volume, and all that has to hold after it.
+
+use std::fmt;
+
+use sumbilak_reference::ffi::{self, CAnswer, LOAD_WORDS};
+use sumbilak_reference::inputs::{assemble, decode, encode, entry, Fields, Shape, FENCE, X, X32};
+use sumbilak_reference::model::{self, Loaded, Refusal};
+
+use crate::event::{Event, Hand, Request, LINK};
+use crate::figures::Figures;
+use crate::rules::{carry_step, first, land, landed, Rules};
+use crate::volume::{Flaw, Held, Reading, Volume, TRAILER};
+
+/// What went wrong.
+#[derive(Clone, Debug, PartialEq)]
+pub enum Violation {
+    /// The image found does not load.
+    Load { answer: CAnswer },
+    /// The image found is not sound by the model.
+    Model { refusal: Refusal },
+    /// The image found is not sound by the simulator's own reading.
+    Flaw(Flaw),
+    /// "the trailer's bytes never change" (Decision 24).
+    Trailer,
+    /// Load's free sets are not what no named map holds.
+    FreeSet { unit: Option<u64>, map: Option<u64> },
+    /// A chunk does not hold what the ledger gives it.
+    Ledger {
+        chunk: u64,
+        holds: Vec<u64>,
+        ledger: Vec<u64>,
+    },
+    /// "After a cut the chunk in flight holds its new pieces exactly if its
+    /// LINK landed" (Decision 24), else all its old ones.
+    InFlight {
+        chunk: u64,
+        link_landed: bool,
+        holds: Vec<u64>,
+        due: Vec<u64>,
+    },
+    /// A finished plan with a step that has not landed.
+    Unfinished { landed: u64, steps: usize },
+    /// A refused event changed something.
+    RefusedChanged,
+    /// Carrying out n steps is not their MAP and LINK words.
+    Carry { n: u64, answer: CAnswer },
+    /// "where all n have landed, that is byte for byte what carrying out n
+    /// steps leaves" (01).
+    NotAsCarried { n: u64 },
+    /// The planner's answer is not the one that 01 gives.
+    Planner { answer: CAnswer, plan: Vec<Fields> },
+    /// A plan that has to pass, or one that must not.
+    Verdict { answer: CAnswer, due: Due },
+    /// Another answer than the model's or the reading's.
+    Answer {
+        call: &'static str,
+        answer: [u64; 3],
+        due: [u64; 3],
+    },
+}
+
+/// What a checker's verdict had to be.
+#[derive(Clone, Copy, Debug, PartialEq, Eq)]
+pub enum Due {
+    Pass,
+    Refuse { rule: u64 },
+}
+
+impl Violation {
+    pub fn name(&self) -> &'static str {
+        match self {
+            Violation::Load { .. } => "does not load",
+            Violation::Model { .. } => "unsound by the model",
+            Violation::Flaw(Flaw::Link { .. }) => "bad link",
+            Violation::Flaw(Flaw::Map { .. }) => "a map that is not there",
+            Violation::Flaw(Flaw::MapTwice { .. }) => "map with two owners",
+            Violation::Flaw(Flaw::UnitTwice { .. }) => "unit with two owners",
+            Violation::Trailer => "trailer changed",
+            Violation::FreeSet { .. } => "free set",
+            Violation::Ledger { .. } => "not what the ledger gives",
+            Violation::InFlight { .. } => "neither all new nor all old",
+            Violation::Unfinished { .. } => "finished but not landed",
+            Violation::RefusedChanged => "refused but changed",
+            Violation::Carry { .. } => "carrying out",
+            Violation::NotAsCarried { .. } => "not as carried out",
+            Violation::Planner { .. } => "planner",
+            Violation::Verdict { .. } => "verdict",
+            Violation::Answer { .. } => "answer",
+        }
+    }
+}
+
+impl Violation {
+    /// Whether the volume itself is damaged by now, so that nothing that comes
+    /// after it tells of anything new.
+    pub fn harms(&self) -> bool {
+        !matches!(
+            self,
+            Violation::FreeSet { .. }
+                | Violation::Carry { .. }
+                | Violation::Planner { .. }
+                | Violation::Verdict { .. }
+                | Violation::Answer { .. }
+        )
+    }
+}
+
+impl fmt::Display for Violation {
+    fn fmt(&self, f: &mut fmt::Formatter) -> fmt::Result {
+        write!(f, "{}: {self:x?}", self.name())
+    }
+}
+
+/// How an event ended.
+#[derive(Clone, Copy, Debug, PartialEq, Eq)]
+pub enum Ending {
+    Refused(CAnswer),
+    /// "a plan with n all its steps is finished" (01).
+    Finished,
+    /// "with fewer it is cut at point n" (01).
+    Cut,
+}
+
+pub struct Outcome {
+    pub ending: Ending,
+    /// Whether the checker accepted the plan; a step count may still be
+    /// refused.
+    pub plan_passed: bool,
+    pub landed: u64,
+    pub link_landed: bool,
+}
+
+fn triple(answer: CAnswer) -> [u64; 3] {
+    [answer.number, answer.place, answer.second]
+}
+
+fn triple_of<T>(answer: &model::Answer<T>) -> [u64; 3] {
+    match answer {
+        Ok(_) => [0; 3],
+        Err(refusal) => [refusal.number, refusal.place, refusal.second],
+    }
+}
+
+fn words_of(loaded: &Loaded) -> [u64; LOAD_WORDS] {
+    let Loaded {
+        p, c, m, n, maps, ..
+    } = *loaded;
+    let mut words = [0; LOAD_WORDS];
+    words[..4].copy_from_slice(&[p, c, m, n]);
+    words[4..76].copy_from_slice(&loaded.units);
+    words[76..].copy_from_slice(&maps);
+    words
+}
+
+/// The rules at work on volumes of one geometry.
+pub struct Simulator<'a, R> {
+    pub rules: &'a R,
+    pub shape: Shape,
+    trailer: [u8; TRAILER],
+}
+
+impl<'a, R: Rules> Simulator<'a, R> {
+    pub fn new(rules: &'a R, shape: Shape) -> Self {
+        let fresh = Volume::formatted(&shape, || 0);
+        let trailer = fresh.trailer().try_into().expect("32 bytes");
+        Simulator {
+            rules,
+            shape,
+            trailer,
+        }
+    }
+
+    /// Asks the planner, and holds its answer to 01: the k lowest free units,
+    /// the lowest free map, 9 only if fewer than k units are free. "With N at
+    /// least (C+1)·P it never does for one write."
+    pub fn plan(
+        &self,
+        image: &[u8],
+        request: Request,
+        violations: &mut Vec<Violation>,
+    ) -> Option<Vec<u8>> {
+        let shape = &self.shape;
+        let mut out = [0xEE; 16 * 35];
+        let answer = self.rules.plan(shape, image, request, &mut out);
+        let reading = Reading::of(shape, image);
+        let k = request.k();
+        let free = reading.free_units().count() as u64;
+        let due = if request.chunk >= shape.c {
+            Err([7, 0])
+        } else if !request.is_good(shape) {
+            Err([8, 0])
+        } else if request.size.is_none() {
+            Ok(if entry(image, request.chunk) == X {
+                Vec::new()
+            } else {
+                vec![[LINK, request.chunk as u32, 0, X32], FENCE]
+            })
+        } else if free < k {
+            Err([9, free])
+        } else {
+            let units: Vec<u64> = reading.free_units().take(k as usize).collect();
+            let map = reading.free_maps().next().expect("more maps than chunks");
+            Ok(assemble(shape, request.chunk, &units, map))
+        };
+        let room_for_one = shape.n < (shape.c + 1) * shape.p || answer.number != 9;
+        let length = 16 * answer.value.min(35) as usize;
+        let good = match &due {
+            Ok(steps) => answer.number == 0 && encode(steps) == out[..length],
+            Err(refusal) => {
+                [answer.number, answer.place] == *refusal
+                    && out == [0xEE; 16 * 35]
+                    && answer.value == 0
+            }
+        };
+        let plan = out[..length].to_vec();
+        if !good || !room_for_one || answer.second != 0 || answer.extent != 0 {
+            violations.push(Violation::Planner {
+                answer,
+                plan: decode(&plan),
+            });
+        }
+        (answer.number == 0).then_some(plan)
+    }
+
+    /// Checks a plan; the verdict is compared with the model's.
+    pub fn check(
+        &self,
+        image: &[u8],
+        request: Request,
+        plan: &[u8],
+        violations: &mut Vec<Violation>,
+    ) -> CAnswer {
+        let answer = self.rules.check(&self.shape, image, request, plan);
+        if R::RIGHT {
+            let due = match request.size {
+                Some(size) => model::check_write(image, request.chunk, size, plan),
+                None => model::check_discard(image, request.chunk, plan),
+            };
+            self.compare("check", answer, triple_of(&due), violations);
+        }
+        answer
+    }
+
+    fn compare(
+        &self,
+        call: &'static str,
+        answer: CAnswer,
+        due: [u64; 3],
+        violations: &mut Vec<Violation>,
+    ) {
+        if triple(answer) != due || answer.value != 0 || answer.extent != 0 {
+            violations.push(Violation::Answer {
+                call,
+                answer: triple(answer),
+                due,
+            });
+        }
+    }
+
+    /// Carries out every count of steps on a copy, also one too many: "Carrying
+    /// out the first n steps checks the plan, then stores the MAP and LINK
+    /// words of those n and no other byte." (01) Answers how many were tried.
+    pub fn carry_each(
+        &self,
+        image: &[u8],
+        event: &Event,
+        steps: &[Fields],
+        violations: &mut Vec<Violation>,
+    ) -> u64 {
+        let Event { request, plan, .. } = event;
+        let mut due = image.to_vec();
+        let mut copy = image.to_vec();
+        for n in 0..=steps.len() {
+            if n > 0 {
+                carry_step(&self.shape, &mut due, &steps[n - 1]);
+            }
+            copy.copy_from_slice(image);
+            let n = n as u64;
+            let answer = self.rules.carry(&self.shape, &mut copy, *request, plan, n);
+            if answer.number != 0 || copy != due {
+                violations.push(Violation::Carry { n, answer });
+            }
+        }
+        let n = steps.len() as u64 + 1;
+        copy.copy_from_slice(image);
+        let answer = self.rules.carry(&self.shape, &mut copy, *request, plan, n);
+        // Row 7: "step count above the plan's whole steps".
+        if triple(answer) != [7, 0, 0] || copy != image {
+            violations.push(Violation::Carry { n, answer });
+        }
+        n + 1
+    }
+
+    /// The checker's and the carrier's verdict on an event. "Where checking,
+    /// or carrying out n steps, is refused, both stay." (01) Otherwise
+    /// `carried` is what carrying out n steps leaves.
+    fn judge(
+        &self,
+        image: &[u8],
+        event: &Event,
+        carried: &mut Vec<u8>,
+        violations: &mut Vec<Violation>,
+    ) -> [CAnswer; 2] {
+        let Event {
+            request, plan, n, ..
+        } = event;
+        let answer = self.check(image, *request, plan, violations);
+        carried.clear();
+        carried.extend_from_slice(image);
+        let carry = self.rules.carry(&self.shape, carried, *request, plan, *n);
+        // "7 for the chunk or for n above the whole steps, 8, then 11"
+        // (Decision 11); a sound image gives nothing lower.
+        let too_many = *n > plan.len() as u64 / 16;
+        let due = if too_many { [7, 0, 0] } else { triple(answer) };
+        self.compare("carry", carry, due, violations);
+        if carry.number != 0 && carried != image {
+            violations.push(Violation::RefusedChanged);
+        }
+        [answer, carry]
+    }
+
+    /// Runs one event on the volume and checks everything after it.
+    pub fn event(
+        &self,
+        volume: &mut Volume,
+        event: &Event,
+        figures: &mut Figures,
+        violations: &mut Vec<Violation>,
+    ) -> Outcome {
+        let before = volume.clone();
+        let mut carried = Vec::new();
+        let [checked, carry] = self.judge(&volume.image, event, &mut carried, violations);
+        let plan_passed = checked.number == 0;
+        let refusal = [checked, carry].into_iter().find(|given| given.number != 0);
+        self.expect(event, checked, violations);
+
+        let outcome = match refusal {
+            Some(answer) => Outcome {
+                ending: Ending::Refused(answer),
+                plan_passed,
+                landed: 0,
+                link_landed: false,
+            },
+            None => {
+                let steps = decode(&event.plan);
+                figures.carried += self.carry_each(&before.image, event, &steps, violations);
+                let n = event.n as usize;
+                let landed = landed(self.rules, &steps, n, event.choice);
+                land(self.rules, &self.shape, volume, event, &steps, landed);
+                self.settle(&before, volume, event, &steps, landed, violations)
+            }
+        };
+        if outcome.landed == first(event.n as usize)
+            && !matches!(outcome.ending, Ending::Refused(_))
+            && volume.image != carried
+        {
+            violations.push(Violation::NotAsCarried { n: event.n });
+        }
+        if matches!(outcome.ending, Ending::Refused(_)) && *volume != before {
+            violations.push(Violation::RefusedChanged);
+        }
+        self.verify(&volume.image, violations);
+        self.verify_pieces(volume, violations);
+        if R::RIGHT {
+            self.verify_answers(&volume.image, event.request.chunk, violations);
+        }
+        figures.count(event, &outcome);
+        outcome
+    }
+
+    /// The planner's plans and other legal ones pass, damaged ones do not.
+    fn expect(&self, event: &Event, answer: CAnswer, violations: &mut Vec<Violation>) {
+        let (due, good) = match event.hand {
+            Hand::Planner | Hand::Other => (Due::Pass, triple(answer) == [0; 3]),
+            Hand::Damaged(rule) => (Due::Refuse { rule }, triple(answer) == [11, rule, 0]),
+            _ => return,
+        };
+        if !good {
+            violations.push(Violation::Verdict { answer, due });
+        }
+    }
+
+    /// After an accepted plan has landed: feeds the ledger, and checks the
+    /// plan's end and its chunk.
+    pub fn settle(
+        &self,
+        before: &Volume,
+        volume: &mut Volume,
+        event: &Event,
+        steps: &[Fields],
+        landed: u64,
+        violations: &mut Vec<Violation>,
+    ) -> Outcome {
+        let links = steps.iter().enumerate().filter(|(_, step)| step[0] == LINK);
+        let link_landed = links.into_iter().any(|(at, _)| landed >> at & 1 == 1);
+        let finished = event.n as usize == steps.len();
+        // "Otherwise a plan with n all its steps is finished, and all have
+        // landed" (01), which is to follow "from rule 5's last FENCE"
+        // (Decision 19).
+        if finished && landed != first(steps.len()) {
+            violations.push(Violation::Unfinished {
+                landed,
+                steps: steps.len(),
+            });
+        }
+
+        let chunk = event.request.chunk;
+        let new = || (0..event.request.k()).map(|j| event.payload.piece(j));
+        // "Refused, or cut with no LINK landed: no change. Otherwise a write
+        // gives its chunk the payload's pieces 0 to k-1 in order, a discard
+        // nothing." (01)
+        if finished || link_landed {
+            let pieces = &mut volume.ledger[chunk as usize];
+            pieces.clear();
+            pieces.extend(new());
+        }
+
+        // "Old pieces are those held before the event; new ones the
+        // payload's, or none for a discard." (01)
+        let now = Held::of(&self.shape, &volume.image, chunk);
+        let old = Held::of(&self.shape, &before.image, chunk);
+        let good = if link_landed {
+            now.pieces(&volume.units).eq(new())
+        } else {
+            now.pieces(&volume.units).eq(old.pieces(&before.units))
+        };
+        if !good {
+            let due = if link_landed {
+                new().collect()
+            } else {
+                old.pieces(&before.units).collect()
+            };
+            violations.push(Violation::InFlight {
+                chunk,
+                link_landed,
+                holds: now.pieces(&volume.units).collect(),
+                due,
+            });
+        }
+        Outcome {
+            ending: if finished {
+                Ending::Finished
+            } else {
+                Ending::Cut
+            },
+            plan_passed: true,
+            landed,
+            link_landed,
+        }
+    }
+
+    /// What has to hold of any image found: it loads, it is sound by the model
+    /// and by the simulator's own reading, nothing is owned twice, and the
+    /// free sets are rebuilt from the named maps.
+    pub fn verify(&self, image: &[u8], violations: &mut Vec<Violation>) {
+        if image[image.len() - TRAILER..] != self.trailer {
+            violations.push(Violation::Trailer);
+        }
+        let reading = Reading::of(&self.shape, image);
+        violations.extend(reading.flaws.iter().cloned().map(Violation::Flaw));
+        let due = reading.load_words();
+
+        let mut words = [0; LOAD_WORDS];
+        let answer = self.rules.load(&self.shape, image, &mut words);
+        if answer.number != 0 {
+            violations.push(Violation::Load { answer });
+        } else if words != due {
+            let differing = |from: usize, to: usize| {
+                let at = (from..to).find(|&at| words[at] != due[at])?;
+                let bit = (words[at] ^ due[at]).trailing_zeros() as usize;
+                Some((64 * (at - from) + bit) as u64)
+            };
+            violations.push(Violation::FreeSet {
+                unit: differing(4, 76),
+                map: differing(76, LOAD_WORDS),
+            });
+        }
+        match model::load(image) {
+            Err(refusal) => violations.push(Violation::Model { refusal }),
+            Ok(loaded) if words_of(&loaded) != due => violations.push(Violation::Answer {
+                call: "the model's load",
+                answer: [0; 3],
+                due: [0; 3],
+            }),
+            Ok(_) => {}
+        }
+    }
+
+    /// Every chunk holds exactly what the ledger gives it.
+    pub fn verify_pieces(&self, volume: &Volume, violations: &mut Vec<Violation>) {
+        for (chunk, ledger) in (0..).zip(&volume.ledger) {
+            let held = Held::of(&self.shape, &volume.image, chunk);
+            let holds = held.pieces(&volume.units);
+            if !holds.eq(ledger.iter().copied()) {
+                violations.push(Violation::Ledger {
+                    chunk,
+                    holds: held.pieces(&volume.units).collect(),
+                    ledger: ledger.clone(),
+                });
+            }
+        }
+    }
+
+    /// The report's counts and the held words of the event's chunk.
+    fn verify_answers(&self, image: &[u8], chunk: u64, violations: &mut Vec<Violation>) {
+        let reading = Reading::of(&self.shape, image);
+        let report = ffi::report(image);
+        let free = reading.free_units().count() as u64;
+        let mapped = reading.named_maps().count() as u64;
+        let due = [0, mapped, free];
+        if [report.number, report.mapped, report.free] != due {
+            violations.push(Violation::Answer {
+                call: "report",
+                answer: [report.number, report.mapped, report.free],
+                due,
+            });
+        }
+        if chunk < self.shape.c {
+            let map = entry(image, chunk);
+            let k = Held::of(&self.shape, image, chunk).units().len() as u64;
+            let due = if k == 0 {
+                [0; 3]
+            } else {
+                [0, self.shape.word_at(map, 0) as u64, 8 * k]
+            };
+            let held = ffi::held(image, chunk);
+            let answer = [held.number, held.value, held.extent];
+            if answer != due {
+                let call = "held";
+                violations.push(Violation::Answer { call, answer, due });
+            }
+        }
+    }
+}

@@ -1,0 +1,242 @@
+//! A volume as the simulator keeps it, and a reading of its image that asks
+//! neither the library nor the model.
+
+use sumbilak_reference::ffi::{self, LOAD_WORDS};
+use sumbilak_reference::inputs::{entry, put_entry, put_word, word, Shape, X};
+use sumbilak_reference::rng::Rng;
+
+/// "P units make a chunk, 2 to 16." (01)
+pub const MOST_PIECES: usize = 16;
+/// Bytes of the trailer.
+pub const TRAILER: usize = 32;
+
+/// Image, units and ledger. "Each event gets image and units as the last one
+/// left them; nobody else writes them meanwhile." (01)
+#[derive(Debug, PartialEq, Eq, Hash)]
+pub struct Volume {
+    /// The metadata, changed only by what landed.
+    pub image: Vec<u8>,
+    /// What each unit holds, as a tag for its 4,096 bytes.
+    pub units: Vec<u64>,
+    /// "The ledger gives each chunk a list of pieces, or nothing (the empty
+    /// list)" (01).
+    pub ledger: Vec<Vec<u64>>,
+}
+
+/// Written out because the derived `clone_from` would not reuse the buffers.
+impl Clone for Volume {
+    fn clone(&self) -> Self {
+        Volume {
+            image: self.image.clone(),
+            units: self.units.clone(),
+            ledger: self.ledger.clone(),
+        }
+    }
+
+    fn clone_from(&mut self, other: &Self) {
+        self.image.clone_from(&other.image);
+        self.units.clone_from(&other.units);
+        self.ledger.clone_from(&other.ledger);
+    }
+}
+
+impl Volume {
+    /// "It starts from the image that format writes." "A unit's content is
+    /// anything at the start"; the ledger gives "at the start nothing" (01).
+    pub fn formatted(shape: &Shape, content: impl FnMut() -> u64) -> Self {
+        let Shape { p, c, m, n } = *shape;
+        // Format has to write every byte, so it starts on some that are wrong.
+        let mut image = vec![0x5A; shape.image_len()];
+        let answer = ffi::format(&mut image, p, c, m, n);
+        assert_eq!(answer.number, 0, "format of {shape:?}");
+        let mut content = content;
+        Volume {
+            image,
+            units: (0..n).map(|_| content()).collect(),
+            ledger: vec![Vec::new(); c as usize],
+        }
+    }
+
+    /// "The theorem holds from any sound image whose ledger begins with what
+    /// that image holds" (Decision 25): chunks on random maps and units, up to
+    /// `full` percent of the units held, dead maps with anything in them.
+    pub fn scattered(rng: &mut Rng, shape: &Shape, full: u64) -> Self {
+        let mut volume = Volume::formatted(shape, || rng.next_u64());
+        let mut units: Vec<u64> = (0..shape.n).collect();
+        let mut maps: Vec<u64> = (0..shape.m).collect();
+        let mut chunks: Vec<u64> = (0..shape.c).collect();
+        rng.shuffle(&mut units);
+        rng.shuffle(&mut maps);
+        rng.shuffle(&mut chunks);
+        units.truncate((shape.n * full / 100) as usize);
+        for &chunk in &chunks {
+            if units.is_empty() {
+                break;
+            }
+            let map = maps.pop().expect("more maps than chunks");
+            let k = rng.between(1, shape.p.min(units.len() as u64));
+            put_entry(&mut volume.image, chunk, map);
+            for at in 0..k {
+                let unit = units.pop().expect("at least k are left");
+                put_word(&mut volume.image, shape.word_at(map, at), unit);
+                let content = volume.units[unit as usize];
+                volume.ledger[chunk as usize].push(content);
+            }
+        }
+        for map in maps {
+            for at in 0..shape.p {
+                let junk = match rng.below(4) {
+                    0 => X,
+                    1 => rng.next_u64(),
+                    _ => rng.below(shape.n),
+                };
+                put_word(&mut volume.image, shape.word_at(map, at), junk);
+            }
+        }
+        volume
+    }
+
+    pub fn trailer(&self) -> &[u8] {
+        &self.image[self.image.len() - TRAILER..]
+    }
+}
+
+/// The first units of a chunk's map, in order.
+#[derive(Clone, Copy)]
+pub struct Held {
+    units: [usize; MOST_PIECES],
+    len: usize,
+}
+
+impl Held {
+    /// What a chunk's map names, up to the first word that is no unit; an
+    /// entry that is no map counts as unmapped. Where that hides a flaw,
+    /// [`Reading`] tells of it.
+    pub fn of(shape: &Shape, image: &[u8], chunk: u64) -> Self {
+        let mut held = Held {
+            units: [0; MOST_PIECES],
+            len: 0,
+        };
+        let map = entry(image, chunk);
+        if map < shape.m {
+            for at in 0..shape.p {
+                let unit = word(image, shape.word_at(map, at));
+                if unit >= shape.n {
+                    break;
+                }
+                held.units[held.len] = unit as usize;
+                held.len += 1;
+            }
+        }
+        held
+    }
+
+    pub fn units(&self) -> &[usize] {
+        &self.units[..self.len]
+    }
+
+    /// "a chunk holds the contents of its map's units in order, and an
+    /// unmapped one holds no pieces" (01).
+    pub fn pieces<'a>(&'a self, contents: &'a [u64]) -> impl Iterator<Item = u64> + 'a {
+        self.units().iter().map(|&unit| contents[unit])
+    }
+}
+
+/// What keeps an image from being sound.
+#[derive(Clone, Debug, PartialEq, Eq)]
+pub enum Flaw {
+    /// "each logical entry is X or below M"
+    Link { chunk: u64 },
+    /// "each named map holds 1 to P units below N, then only X"
+    Map { chunk: u64 },
+    /// "no two chunks name the same map"
+    MapTwice { map: u64, first: u64, second: u64 },
+    /// "no unit is named twice in named maps"
+    UnitTwice { unit: u64, first: u64, second: u64 },
+}
+
+/// An image read word by word: who owns which map and unit. "A unit's owners
+/// are the chunks whose maps name it." (01)
+pub struct Reading {
+    shape: Shape,
+    map_owner: Vec<Option<u64>>,
+    unit_owner: Vec<Option<u64>>,
+    pub flaws: Vec<Flaw>,
+}
+
+impl Reading {
+    pub fn of(shape: &Shape, image: &[u8]) -> Self {
+        let mut reading = Reading {
+            shape: *shape,
+            map_owner: vec![None; shape.m as usize],
+            unit_owner: vec![None; shape.n as usize],
+            flaws: Vec::new(),
+        };
+        for second in 0..shape.c {
+            let map = entry(image, second);
+            if map == X {
+                continue;
+            }
+            if map >= shape.m {
+                reading.flaws.push(Flaw::Link { chunk: second });
+                continue;
+            }
+            if let Some(first) = reading.map_owner[map as usize].replace(second) {
+                reading.flaws.push(Flaw::MapTwice { map, first, second });
+            }
+            let held = Held::of(shape, image, second);
+            let k = held.units().len() as u64;
+            let rest_absent = (k..shape.p).all(|at| word(image, shape.word_at(map, at)) == X);
+            if k == 0 || !rest_absent {
+                reading.flaws.push(Flaw::Map { chunk: second });
+            }
+            for &unit in held.units() {
+                if let Some(first) = reading.unit_owner[unit].replace(second) {
+                    let unit = unit as u64;
+                    reading.flaws.push(Flaw::UnitTwice {
+                        unit,
+                        first,
+                        second,
+                    });
+                }
+            }
+        }
+        reading
+    }
+
+    /// "Held units are those in named maps; all others are free." (01)
+    pub fn free_units(&self) -> impl Iterator<Item = u64> + '_ {
+        (0..self.shape.n).filter(|&unit| self.unit_owner[unit as usize].is_none())
+    }
+
+    /// "The same for maps." (01)
+    pub fn free_maps(&self) -> impl Iterator<Item = u64> + '_ {
+        (0..self.shape.m).filter(|&map| self.map_owner[map as usize].is_none())
+    }
+
+    /// The units of other chunks than this one.
+    pub fn units_of_others(&self, chunk: u64) -> impl Iterator<Item = u64> + '_ {
+        (0..self.shape.n)
+            .filter(move |&unit| self.unit_owner[unit as usize].is_some_and(|owner| owner != chunk))
+    }
+
+    /// The maps that some chunk names.
+    pub fn named_maps(&self) -> impl Iterator<Item = u64> + '_ {
+        (0..self.shape.m).filter(|&map| self.map_owner[map as usize].is_some())
+    }
+
+    /// What load has to answer: P, C, M, N, and both free sets, "bit u mod 64
+    /// of word u/64 is 1 if unit u is free, all else 0" (01).
+    pub fn load_words(&self) -> [u64; LOAD_WORDS] {
+        let Shape { p, c, m, n } = self.shape;
+        let mut words = [0; LOAD_WORDS];
+        words[..4].copy_from_slice(&[p, c, m, n]);
+        for unit in self.free_units() {
+            words[4 + unit as usize / 64] |= 1 << (unit % 64);
+        }
+        for map in self.free_maps() {
+            words[76 + map as usize / 64] |= 1 << (map % 64);
+        }
+        words
+    }
+}

@@ -1,0 +1,328 @@
+//! Rules that are wrong on purpose. Under each of them a volume comes to lie,
+//! and the simulator has to notice from the volume alone.
+
+use sumbilak_reference::ffi::{self, CAnswer, LOAD_WORDS};
+use sumbilak_reference::inputs::{
+    assemble, decode, encode, entry, put_entry, put_word, word, Fields, Shape, FENCE as FENCE_STEP,
+    X,
+};
+
+use crate::event::{Request, LINK, MAP};
+use crate::rules::{carry_step, check, Fate, Library, Rules};
+use crate::volume::Held;
+
+const GOOD: CAnswer = CAnswer {
+    number: 0,
+    place: 0,
+    second: 0,
+    value: 0,
+    extent: 0,
+};
+
+fn refusal(number: u64, place: u64) -> CAnswer {
+    CAnswer {
+        number,
+        place,
+        ..GOOD
+    }
+}
+
+/// Carries out what a wrong checker let pass; the library's carrier would
+/// check for itself.
+fn carry_as_judged(
+    shape: &Shape,
+    image: &mut [u8],
+    plan: &[u8],
+    n: u64,
+    verdict: CAnswer,
+) -> CAnswer {
+    let steps = decode(plan);
+    if n > steps.len() as u64 {
+        return refusal(7, 0);
+    }
+    if verdict.number == 0 {
+        for step in &steps[..n as usize] {
+            carry_step(shape, image, step);
+        }
+    }
+    verdict
+}
+
+/// A wrong checker, with a carrier that believes it.
+pub struct Checker(pub fn(&Shape, &[u8], Request, &[u8]) -> CAnswer);
+
+impl Rules for Checker {
+    fn check(&self, shape: &Shape, image: &[u8], request: Request, plan: &[u8]) -> CAnswer {
+        (self.0)(shape, image, request, plan)
+    }
+
+    fn carry(
+        &self,
+        shape: &Shape,
+        image: &mut [u8],
+        request: Request,
+        plan: &[u8],
+        n: u64,
+    ) -> CAnswer {
+        let verdict = (self.0)(shape, image, request, plan);
+        carry_as_judged(shape, image, plan, n, verdict)
+    }
+}
+
+/// "LINK before the fence": asks the library about the plan with a FENCE put
+/// in before LINK.
+pub fn without_the_fence_before_link(
+    _: &Shape,
+    image: &[u8],
+    request: Request,
+    plan: &[u8],
+) -> CAnswer {
+    if !plan.len().is_multiple_of(16) {
+        return check(image, request, plan);
+    }
+    let fenced: Vec<Fields> = decode(plan)
+        .into_iter()
+        .flat_map(|step| {
+            let fence = (step[0] == LINK).then_some(FENCE_STEP);
+            fence.into_iter().chain([step])
+        })
+        .collect();
+    check(image, request, &encode(&fenced))
+}
+
+/// "No last FENCE": asks the library about the plan with one put at its end.
+pub fn without_the_last_fence(_: &Shape, image: &[u8], request: Request, plan: &[u8]) -> CAnswer {
+    let mut fenced = plan.to_vec();
+    fenced.extend(encode(&[FENCE_STEP]));
+    let answer = check(image, request, &fenced);
+    // The empty plan of an unmapped chunk's discard is good without.
+    if answer.number == 0 {
+        answer
+    } else {
+        check(image, request, plan)
+    }
+}
+
+/// "Old units counted free for the write that replaces them": asks the library
+/// about an image in which the chunk is unmapped already. Its old map still is
+/// not free.
+pub fn with_old_units_free(_: &Shape, image: &[u8], request: Request, plan: &[u8]) -> CAnswer {
+    let right = check(image, request, plan);
+    if right.number != 11 || request.size.is_none() {
+        return right;
+    }
+    let old_map = entry(image, request.chunk);
+    let on_old_map = |step: &Fields| step[0] == MAP && u64::from(step[1]) == old_map;
+    if decode(plan).iter().any(on_old_map) {
+        return right;
+    }
+    let mut unmapped = image.to_vec();
+    put_entry(&mut unmapped, request.chunk, X);
+    check(&unmapped, request, plan)
+}
+
+/// "On a double claim, letting the later chunk win": what lower chunks hold
+/// may be claimed again.
+pub fn with_the_later_chunk_winning(
+    shape: &Shape,
+    image: &[u8],
+    request: Request,
+    plan: &[u8],
+) -> CAnswer {
+    let mut later = image.to_vec();
+    for chunk in 0..request.chunk.min(shape.c) {
+        put_entry(&mut later, chunk, X);
+    }
+    check(&later, request, plan)
+}
+
+/// A checker that stops after rule 1: "one that accepts all" (01), as far as
+/// its steps can be carried out at all.
+pub fn of_rule_1_only(_: &Shape, image: &[u8], request: Request, plan: &[u8]) -> CAnswer {
+    let answer = check(image, request, plan);
+    if answer.number == 11 && answer.place > 1 {
+        GOOD
+    } else {
+        answer
+    }
+}
+
+/// Answers a write's plan on the lowest of these units.
+fn plan_on(shape: &Shape, image: &[u8], request: Request, free: &[u64], out: &mut [u8]) -> CAnswer {
+    let k = request.k() as usize;
+    if free.len() < k {
+        return refusal(9, free.len() as u64);
+    }
+    let named: Vec<u64> = (0..shape.c).map(|chunk| entry(image, chunk)).collect();
+    let map = (0..shape.m).find(|map| !named.contains(map));
+    let map = map.expect("more maps than chunks");
+    let steps = assemble(shape, request.chunk, &free[..k], map);
+    let plan = encode(&steps);
+    out[..plan.len()].copy_from_slice(&plan);
+    CAnswer {
+        value: steps.len() as u64,
+        ..GOOD
+    }
+}
+
+/// A planner that counts the chunk's old units as free; the checker is right
+/// or goes along with it.
+pub struct GreedyPlanner {
+    pub checker_agrees: bool,
+}
+
+impl Rules for GreedyPlanner {
+    fn plan(&self, shape: &Shape, image: &[u8], request: Request, out: &mut [u8]) -> CAnswer {
+        if request.size.is_none() || !request.is_good(shape) {
+            return Library.plan(shape, image, request, out);
+        }
+        let held: Vec<usize> = (0..shape.c)
+            .filter(|&chunk| chunk != request.chunk)
+            .flat_map(|chunk| Held::of(shape, image, chunk).units().to_vec())
+            .collect();
+        let free: Vec<u64> = (0..shape.n)
+            .filter(|&unit| !held.contains(&(unit as usize)))
+            .collect();
+        plan_on(shape, image, request, &free, out)
+    }
+
+    fn check(&self, shape: &Shape, image: &[u8], request: Request, plan: &[u8]) -> CAnswer {
+        if self.checker_agrees {
+            with_old_units_free(shape, image, request, plan)
+        } else {
+            check(image, request, plan)
+        }
+    }
+
+    fn carry(
+        &self,
+        shape: &Shape,
+        image: &mut [u8],
+        request: Request,
+        plan: &[u8],
+        n: u64,
+    ) -> CAnswer {
+        let verdict = self.check(shape, image, request, plan);
+        carry_as_judged(shape, image, plan, n, verdict)
+    }
+}
+
+/// "Rebuilding the free set from all maps, not the named ones": a loader and a
+/// planner that do so.
+pub struct AllMaps;
+
+impl AllMaps {
+    fn free_units(shape: &Shape, image: &[u8]) -> Vec<u64> {
+        let mut free = vec![true; shape.n as usize];
+        for map in 0..shape.m {
+            for at in 0..shape.p {
+                let unit = word(image, shape.word_at(map, at));
+                if unit < shape.n {
+                    free[unit as usize] = false;
+                }
+            }
+        }
+        (0..shape.n).filter(|&unit| free[unit as usize]).collect()
+    }
+}
+
+impl Rules for AllMaps {
+    fn load(&self, shape: &Shape, image: &[u8], out: &mut [u64]) -> CAnswer {
+        let answer = ffi::load(image, out);
+        if answer.number == 0 {
+            out[4..76].fill(0);
+            for unit in AllMaps::free_units(shape, image) {
+                out[4 + unit as usize / 64] |= 1 << (unit % 64);
+            }
+        }
+        answer
+    }
+
+    fn plan(&self, shape: &Shape, image: &[u8], request: Request, out: &mut [u8]) -> CAnswer {
+        if request.size.is_none() || !request.is_good(shape) {
+            return Library.plan(shape, image, request, out);
+        }
+        let free = AllMaps::free_units(shape, image);
+        plan_on(shape, image, request, &free, out)
+    }
+}
+
+/// A loader that, "on a double claim", unmaps the earlier chunk and goes on.
+pub fn let_the_later_chunk_win(shape: &Shape, image: &mut [u8]) {
+    for _ in 0..shape.c {
+        let answer = ffi::load(image, &mut [0; LOAD_WORDS]);
+        if answer.number != 6 {
+            break;
+        }
+        put_entry(image, answer.place, X);
+    }
+}
+
+/// A landing that takes no notice of fences.
+pub struct Unfenced;
+
+impl Rules for Unfenced {
+    fn fenced(&self, _: &[Fields], _: usize) -> usize {
+        0
+    }
+}
+
+/// A landing in which a word that has been passed lands by half.
+pub struct TornWords;
+
+impl Rules for TornWords {
+    fn store(&self, image: &mut [u8], at: usize, value: u64, fate: Fate) {
+        let bytes = match fate {
+            Fate::Landed => 8,
+            Fate::Passed => 4,
+            Fate::Later => 0,
+        };
+        image[at..at + bytes].copy_from_slice(&value.to_le_bytes()[..bytes]);
+    }
+}
+
+/// A landing that stores each word one place too far.
+pub struct WordsTooFar;
+
+impl Rules for WordsTooFar {
+    fn store(&self, image: &mut [u8], at: usize, value: u64, fate: Fate) {
+        if fate == Fate::Landed {
+            put_word(image, at + 8, value);
+        }
+    }
+}
+
+/// Wrong carriers.
+pub enum Carrier {
+    /// "one that stores everything at step one" (01).
+    AllAtOnce,
+    /// "a carrier that does nothing" (01).
+    Idle,
+    /// One that stores first and counts the steps afterwards.
+    StoresFirst,
+}
+
+impl Rules for Carrier {
+    fn carry(
+        &self,
+        shape: &Shape,
+        image: &mut [u8],
+        request: Request,
+        plan: &[u8],
+        n: u64,
+    ) -> CAnswer {
+        let verdict = check(image, request, plan);
+        let whole = plan.len() as u64 / 16;
+        match self {
+            Carrier::AllAtOnce if n > 0 && n <= whole => {
+                carry_as_judged(shape, image, plan, whole, verdict)
+            }
+            Carrier::Idle if n <= whole => verdict,
+            Carrier::StoresFirst if n > whole => {
+                carry_as_judged(shape, image, plan, whole, verdict);
+                refusal(7, 0)
+            }
+            _ => carry_as_judged(shape, image, plan, n, verdict),
+        }
+    }
+}
