@@ -20,4 +20,4 @@ use Rattle.cases.specs.Table.{done, table, AllRight}
 pub cases-right : AllRight table
 unfolding done all any disjoint distinct from keep lowestFrom member rising digits number bitSet bits inSet formatImage formats agreeing fitting fresh known shapeBytes shapeOf sizeBytes trailerOf withinLimits wordsOf trailerOutcome freeMap freeMaps freeUnit freeUnits leading unitsOf badLink badMap chunkVerdict clash contested doubleClaim firstClaim verdict wellFormed goodRange pieceOf pieces splitIn decodeAt decodeFields encode encodeAll gather stepsOf afterLink beforeLink brokenRule checked collect endsIn every judged linkIn linkedIn linksAre mapFits mapIn onceEach pieceIn planMap rule1 rule2 rule3 rule4 rule5 unitIn unitOf wordIn dataSteps mapSteps planIn valueFor planOf writeSteps carried carryAll carryIn after fenced holds lands settle tried
 cases-right =
-    ((refl, refl), ((refl, refl), ((refl, refl), ((refl, refl), (refl, ((refl, refl), (λ landed. (refl, refl), (refl, (refl, (refl, (refl, ((refl, refl, refl), ((refl, refl, refl), ((refl, refl), ((refl, refl, refl, refl), ((refl, refl), (refl, (refl, (refl, (refl, (refl, (refl, ((refl, refl), ((refl, refl, refl, refl), tt))))))))))))))))))))))))
+    ((refl, refl), ((refl, refl), ((refl, refl), ((refl, refl), (refl, ((refl, refl), (λ landed. (refl, refl), ((refl, refl), ((refl, refl), ((refl, refl), (refl, (refl, (refl, (refl, ((refl, refl, refl, refl), ((refl, refl, refl, refl), ((refl, refl), ((refl, refl, refl, refl), ((refl, refl), (refl, (refl, (refl, (refl, (refl, (refl, ((refl, refl), ((refl, refl, refl, refl), tt)))))))))))))))))))))))))))

@@ -1,15 +1,16 @@
 -- Document 01's worked cases of the 224-byte volume, 'The 64 KB volume worked through', and its 'How a map comes to lie', as one table. Each row asks the
 -- definitions that the promises cite.
-use Prim.Native.Nat.{ℕ, _+_, _*_}
+use Prim.Native.Nat.{ℕ, _+_, _*_, _%_}
 use mathlib.Core.Path.{_≡_}
-use mathlib.Core.Bool.{Bool}
+use mathlib.Core.Bool.{Bool, true, false}
 use mathlib.Core.List.{List, [], _∷_, _++_}
+use lib.Dec.{eqb}
 use lib.ListN.{length, replicate}
 use Rattle.search.specs.Search.{below, from}
 use Rattle.bitset.specs.Bits.{members}
 use Rattle.layout.specs.declared.Shape.{Shape}
 use Rattle.layout.specs.declared.Refusal.{Refusal}
-use Rattle.layout.specs.declared.Refusal.the-variants.{Shared, Size, BadPlan}
+use Rattle.layout.specs.declared.Refusal.the-variants.{Shared, Size}
 use Rattle.layout.specs.Layout.{putWord, shapeOf}
 use Rattle.layout.specs.Format.{formatImage}
 use Rattle.layout.specs.Refusals.{refusalNumber, refusalPlace, refusalSecond}
@@ -18,20 +19,20 @@ use Rattle.image.specs.Soundness.{unitsOf}
 use Rattle.image.specs.Loading.{loaded}
 use Rattle.access.specs.declared.Piece.{Piece}
 use Rattle.access.specs.declared.Split.the-variants.{Pieces}
-use Rattle.access.specs.Ranges.{piecesOf, splitAnswer}
+use Rattle.access.specs.Ranges.{pieceBytes, piecesOf, splitAnswer}
 use Rattle.steps.specs.declared.Value.the-variants.{Number, Absent}
 use Rattle.steps.specs.declared.Step.{Step}
 use Rattle.steps.specs.declared.Step.the-variants.{Data, Map, Link, Fence}
 use Rattle.steps.specs.declared.Request.{Request}
 use Rattle.steps.specs.declared.Request.the-variants.{Write, Discard}
-use Rattle.steps.specs.Steps.{encodeAll}
+use Rattle.steps.specs.Steps.{stepBytes, encodeAll}
 use Rattle.checker.specs.declared.Checked.{Checked}
 use Rattle.checker.specs.declared.Checked.the-variants.{Accepted, Refused as Denied}
 use Rattle.checker.specs.Rules.{checked}
 use Rattle.planner.specs.declared.Planned.the-variants.{Steps, Refused as Unplanned}
 use Rattle.planner.specs.Planner.{planOf, planAnswer}
 use Rattle.carry.specs.Carry.{carryImage}
-use Rattle.durable.specs.Events.{Event, holds, after}
+use Rattle.durable.specs.Events.{Volume, Event, holds, after}
 
 -- ---- the volume and what is done on it
 
@@ -72,35 +73,49 @@ pub data Case : Type 0 where
   takes : ℕ → ℕ → Case
   -- after these requests a chunk shows these units
   shows : List Request → ℕ → List ℕ → Case
-  -- after these requests and the planner's plan for a further one, cut at a point, a chunk shows these units and holds their contents, whichever steps landed
+  -- after these requests and the planner's plan for a further one, cut at a point, a chunk shows these units and holds their contents: whichever steps
+  -- landed, and where these did
   cuts : List Request → Request → ℕ → ℕ → List ℕ → Case
+  cutsSo : List Request → Request → ℕ → (ℕ → Bool) → ℕ → List ℕ → Case
   -- after these requests a byte range splits into these pieces
   splits : List Request → ℕ → ℕ → List Piece → Case
   -- after these requests the image with some words stored is refused, with this number and these two places
   unsound : List Request → List (ℕ × ℕ) → Refusal → ℕ → ℕ → ℕ → Case
-  -- after these requests the checker's answer to these steps for a further one
-  checks : List Request → Request → List Step → Checked → Case
+  -- after these requests the checker's number and place for these steps and a further one: 0 and 0 where it accepts them, 11 and the lowest broken rule
+  checks : List Request → Request → List Step → ℕ → ℕ → Case
 
 -- the image with words stored
 abbrev pub putWords : List ℕ → List (ℕ × ℕ) → List ℕ
 putWords s [] = s
 putWords s (w ∷ ws) = putWords (putWord s (w .0) (w .1)) ws
 
+-- the checker's number and place
+abbrev pub numbersOf : Checked → ℕ × ℕ
+numbersOf Accepted = (0, 0)
+numbersOf (Denied x) = (refusalNumber x, refusalPlace x)
+
+-- the longest plan of the planner: "at most 35"
+abbrev pub planRoom : ℕ
+planRoom = stepBytes * 35
+
+-- what chunk i shows after a cut, and what it holds, where each unit's content was its own number
+abbrev pub ShowsAfter : List Request → Request → ℕ → (ℕ → Bool) → ℕ → List ℕ → Type 0
+ShowsAfter rs r n landed i us =
+    let v : Volume ℕ = after (record { image = left rs; content = λ u. u }) (cutAt (left rs) r n landed) in (unitsOf (v .image) i ≡ us) × (holds v i ≡ us)
+
 abbrev pub Right : Case → Type 0
 Right (free rs us ks) = (members (loaded (left rs) .units) ≡ us) × (members (loaded (left rs) .maps) ≡ ks)
-Right (plans rs r xs) = (planAnswer (left rs) r (16 * length xs) ≡ Steps (length xs)) × (planOf (left rs) r ≡ xs)
-Right (refuses r x k) = (planAnswer volume r 560 ≡ Unplanned x) × (checked volume r [] ≡ Denied x) × (refusalNumber x ≡ k)
-Right (takes size k) = planAnswer volume (Write 0 size) 560 ≡ Steps (k + 4 + 3)
+Right (plans rs r xs) = (planAnswer (left rs) r (stepBytes * length xs) ≡ Steps (length xs)) × (planOf (left rs) r ≡ xs)
+Right (refuses r x k) = (planAnswer volume r planRoom ≡ Unplanned x) × (checked volume r [] ≡ Denied x) × (refusalNumber x ≡ k) × (refusalPlace x ≡ 0)
+Right (takes size k) = planAnswer volume (Write 0 size) planRoom ≡ Steps (k + 4 + 3)
 Right (shows rs i us) = unitsOf (left rs) i ≡ us
-Right (cuts rs r n i us) =
-    (landed : ℕ → Bool)
-    → (unitsOf (after (record { image = left rs; content = λ u. u }) (cutAt (left rs) r n landed) .image) i ≡ us)
-    × (holds (after (record { image = left rs; content = λ u. u }) (cutAt (left rs) r n landed)) i ≡ us)
+Right (cuts rs r n i us) = (landed : ℕ → Bool) → ShowsAfter rs r n landed i us
+Right (cutsSo rs r n landed i us) = ShowsAfter rs r n landed i us
 Right (splits rs offset span xs) =
-    (splitAnswer (left rs) offset span (12 * length xs) ≡ Pieces (length xs)) × (piecesOf (shapeOf (left rs)) offset span ≡ xs)
+    (splitAnswer (left rs) offset span (pieceBytes * length xs) ≡ Pieces (length xs)) × (piecesOf (shapeOf (left rs)) offset span ≡ xs)
 Right (unsound rs ws x k i j) =
     (loaded (putWords (left rs) ws) .verdict ≡ Unsound x) × (refusalNumber x ≡ k) × (refusalPlace x ≡ i) × (refusalSecond x ≡ j)
-Right (checks rs r xs a) = checked (left rs) r (encodeAll xs) ≡ a
+Right (checks rs r xs k place) = numbersOf (checked (left rs) r (encodeAll xs)) ≡ (k, place)
 
 abbrev pub AllRight : List Case → Type 0
 AllRight [] = Unit {0}
@@ -146,6 +161,10 @@ table =
     ∷ free (write1 ∷ write2 ∷ write3 ∷ []) (2 ∷ from 5 15) (1 ∷ 3 ∷ 4 ∷ [])
     -- "the same plan cut before LINK: chunk 0 still shows unit 2"
     ∷ cuts (write1 ∷ write2 ∷ []) write3 7 0 (2 ∷ [])
+    -- .. and earlier, with a map that is half written: every other step landed, none, all of four
+    ∷ cutsSo (write1 ∷ write2 ∷ []) write3 6 (λ i. eqb (i % 2) 0) 0 (2 ∷ [])
+    ∷ cutsSo (write1 ∷ write2 ∷ []) write3 6 (λ i. false) 0 (2 ∷ [])
+    ∷ cutsSo (write1 ∷ write2 ∷ []) write3 4 (λ i. true) 0 (2 ∷ [])
     -- "s 1, 4,096, 4,097, 16,384 take 1, 1, 2, 4 units; 0 and 16,385 give 8"
     ∷ takes 1 1
     ∷ takes 4096 1
@@ -159,14 +178,14 @@ table =
     ∷ unsound (Write 0 6144 ∷ []) ((3, 0) ∷ []) (Shared 0 3) 6 0 3
     -- "discard of unmapped chunk 1: no steps; a lone FENCE gives 11, rule 5"
     ∷ plans [] (Discard 1) []
-    ∷ checks [] (Discard 1) [] Accepted
-    ∷ checks [] (Discard 1) (Fence ∷ []) (Denied (BadPlan 5))
+    ∷ checks [] (Discard 1) [] 0 0
+    ∷ checks [] (Discard 1) (Fence ∷ []) 11 5
     -- "LINK before the fence", "No last FENCE": 11, rule 5
-    ∷ checks (write1 ∷ write2 ∷ []) write3 (steps3 3 4 ++ (Link 0 (Number 2) ∷ Fence ∷ [])) (Denied (BadPlan 5))
-    ∷ checks (write1 ∷ write2 ∷ []) write3 (steps3 3 4 ++ (Fence ∷ Link 0 (Number 2) ∷ [])) (Denied (BadPlan 5))
-    -- "Old units counted free for the write that replaces them": 11, rule 2, where the new plan is on unit 2. Else the plan is good.
-    ∷ checks (write1 ∷ write2 ∷ []) write3 (steps3 2 3 ++ (Fence ∷ Link 0 (Number 2) ∷ Fence ∷ [])) (Denied (BadPlan 2))
-    ∷ checks (write1 ∷ write2 ∷ []) write3 (steps3 5 4 ++ (Fence ∷ Link 0 (Number 2) ∷ Fence ∷ [])) Accepted
+    ∷ checks (write1 ∷ write2 ∷ []) write3 (steps3 3 4 ++ (Link 0 (Number 2) ∷ Fence ∷ [])) 11 5
+    ∷ checks (write1 ∷ write2 ∷ []) write3 (steps3 3 4 ++ (Fence ∷ Link 0 (Number 2) ∷ [])) 11 5
+    -- "Old units counted free for the write that replaces them": 11, rule 2, where the new plan is on unit 2. On free units 5 and 4, which are not the lowest, it passes.
+    ∷ checks (write1 ∷ write2 ∷ []) write3 (steps3 2 3 ++ (Fence ∷ Link 0 (Number 2) ∷ Fence ∷ [])) 11 2
+    ∷ checks (write1 ∷ write2 ∷ []) write3 (steps3 5 4 ++ (Fence ∷ Link 0 (Number 2) ∷ Fence ∷ [])) 0 0
     -- "dead maps leak units": map 1, which no chunk names any more, still says unit 2. That unit is free above, and the next write takes it.
     ∷ plans (write1 ∷ write2 ∷ write3 ∷ []) (Write 3 1)
     (Data 2 0 0 ∷ Map 1 0 (Number 2) ∷ Map 1 1 Absent ∷ Map 1 2 Absent ∷ Map 1 3 Absent ∷ Fence ∷ Link 3 (Number 1) ∷ Fence ∷ [])
