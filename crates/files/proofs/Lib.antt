@@ -1,3 +1,2 @@
-pub mod DecimalLaws
-pub mod FractionLaws
 pub mod Parts
+pub mod Theorems

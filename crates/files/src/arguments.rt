@@ -1,13 +1,13 @@
 // The arguments: numbers, fractions and requests.
 use crate::ARGUMENT_ROOM;
 use crate::Asked;
-use crate::Fraction;
-use crate::Number;
 use crate::Threshold;
-use crate::decimals;
-use crate::fractions;
 use crate::saying::complain;
 use check::same;
+use decimals::Fraction;
+use decimals::Number;
+use decimals::fractions;
+use decimals::numbers;
 use report::Level;
 use steps::Request;
 ghost use Prim.Native.Nat.{_≤_};
@@ -23,7 +23,7 @@ pub(crate) fn are(count: usize, usage: &[u8]) -> bool {
 
 // What a text is that is to be a number.
 fn number_in(text: &[u8]) -> Number {
-    let n = decimals::number(text);
+    let n = numbers::number(text);
     match n {
         Number::Value(value) => Number::Value(value),
         Number::Malformed => {

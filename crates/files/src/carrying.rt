@@ -1,6 +1,5 @@
 // Plans carried out on an image file.
 use crate::MAX_IMAGE_BYTES;
-use crate::Number;
 use crate::Outcome;
 use crate::PLAN_ROOM;
 use crate::PLAN_ROOM_STEPS;
@@ -12,6 +11,7 @@ use crate::reading::read_file;
 use crate::reading::read_open;
 use carry::carry;
 use checker::Checked;
+use decimals::Number;
 use layout::Refusal;
 use steps::Decoded;
 use steps::Found;

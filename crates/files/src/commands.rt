@@ -1,6 +1,5 @@
 // The programs: what each does with its arguments, and its last line.
 use crate::Asked;
-use crate::Number;
 use crate::Outcome;
 use crate::Threshold;
 use crate::arguments;
@@ -14,6 +13,7 @@ use crate::saying::conclude;
 use crate::saying::text;
 use crate::space::alarm_file;
 use crate::space::report_file;
+use decimals::Number;
 
 fn list_one() -> Outcome {
     if !arguments::are(2, b"list FILE") {

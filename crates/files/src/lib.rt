@@ -6,9 +6,7 @@ use steps::Request;
 mod arguments;
 mod carrying;
 pub mod commands;
-mod decimals;
 mod formatting;
-mod fractions;
 mod listing;
 mod making;
 mod planning;
@@ -31,20 +29,7 @@ pub const MAX_OWN_PLAN_BYTES: usize = 560;
 // Longer than any argument that Linux hands a program, so that a number may have as many digits as it likes.
 pub const ARGUMENT_ROOM: usize = 131072;
 
-// The greatest number, past every limit: what a number past it is read as.
-pub const MAX_NUMBER: u64 = 18446744073709551615;
-
-// An argument that is to be a number, a fraction, or with those after it a request or an alarm level.
-pub enum Number {
-    Value(u64),
-    Malformed,
-}
-
-pub enum Fraction {
-    Value(f64),
-    Malformed,
-}
-
+// The arguments that are to be a request or an alarm level.
 pub enum Asked {
     For(Request),
     Malformed,

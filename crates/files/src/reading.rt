@@ -1,8 +1,8 @@
 // Files that arguments name, read into lent room.
 use crate::Content;
-use crate::Number;
 use crate::Status;
 use crate::saying::complain;
+use decimals::Number;
 use libc::SEEK_END;
 ghost use Rattle.io.specs.Counts.{Counts};
 

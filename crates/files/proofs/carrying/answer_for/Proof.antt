@@ -1,3 +1,4 @@
+-- `files::carrying::answer_for` is safe: the image's bytes are within the array.
 use lib.ListN.{length}
 use mathlib.Core.Path.{_≡_}
 use Rattle.files.proofs.Parts.{part-length}

@@ -1,3 +1,4 @@
+-- `files::carrying::asked_of` meets its contract: the definition's tests, in its order.
 use Rattle.files.specs.LongPlans.{askedOf}
 use borrow.Author.Tests.{lt-ltb, le-ltb}
 use Rattle.files.proofs.carrying.asked_of.Statement.{statement}

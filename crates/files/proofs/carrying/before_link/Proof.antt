@@ -1,3 +1,4 @@
+-- `files::carrying::before_link` is safe and ends.
 use borrow.Author.Needs.{needs}
 use Prim.Native.Nat.{_-_, _≤_}
 use Rattle.files.proofs.carrying.before_link.Statement.{statement}

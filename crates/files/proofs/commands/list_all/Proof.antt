@@ -1,3 +1,4 @@
+-- `files::commands::list_all` is safe and ends: one argument fewer is left at each turn.
 use borrow.Author.Needs.{needs}
 use Prim.Native.Nat.{_-_}
 use Rattle.files.proofs.commands.list_all.Statement.{statement}

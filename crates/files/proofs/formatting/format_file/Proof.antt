@@ -1,3 +1,4 @@
+-- `files::formatting::format_file` is safe: an image's length is within the room.
 use native.Mathlib.Omega.{arith}
 use Rattle.files.proofs.Parts.{part-length}
 use borrow.Author.Needs.{needs}

@@ -1,3 +1,4 @@
+-- `files::formatting::image_length` meets its contract: within the limits no test is true.
 use Rattle.layout.proofs.Limits.{limits, product-high}
 use native.Mathlib.Omega.{arith}
 use borrow.Author.Needs.{needs}

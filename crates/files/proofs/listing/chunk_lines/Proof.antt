@@ -1,3 +1,4 @@
+-- `files::listing::chunk_lines` is safe and ends.
 use borrow.Author.Needs.{needs}
 use Prim.Native.Nat.{_-_, _≤_}
 use Rattle.files.proofs.listing.chunk_lines.Statement.{statement}

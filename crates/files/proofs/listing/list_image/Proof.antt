@@ -1,3 +1,4 @@
+-- `files::listing::list_image` is safe: a loaded image has its shape, and its free sets are 72 and 5 words.
 use Rattle.image.proofs.Loads.{loaded-known}
 use lib.ListN.{length}
 use denote.Ref.{now}

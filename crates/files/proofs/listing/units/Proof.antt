@@ -1,3 +1,4 @@
+-- `files::listing::units` is safe and ends: word j stands within the words.
 use borrow.Author.Needs.{needs}
 use Prim.Native.Nat.{_-_, _≤_}
 use Rattle.files.proofs.listing.units.Statement.{statement}

@@ -1,3 +1,4 @@
+-- `files::planning::check_image` meets its contract: the outcome of what check answered.
 use Rattle.files.specs.Outcomes.{checkOutcome}
 use mathlib.Core.Path.{sym, ap, _∙_}
 use borrow.Author.Needs.{needs}

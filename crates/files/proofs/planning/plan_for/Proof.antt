@@ -1,3 +1,4 @@
+-- `files::planning::plan_for` meets its contract: that of the call for the request.
 use borrow.Author.Needs.{needs}
 use Rattle.files.proofs.planning.plan_for.Statement.{statement}
 use Rattle.files.proofs.planning.plan_for.Tie as tie

@@ -1,3 +1,4 @@
+-- `files::planning::plan_image` is safe: the steps that the planner answers are in the room.
 use Rattle.planner.proofs.Theorems.{answered}
 use Rattle.files.proofs.Parts.{part-length}
 use lib.ListN.{length}

@@ -1,3 +1,4 @@
+-- `files::planning::step_lines` is safe and ends: step i is a whole step.
 use borrow.Author.Needs.{needs}
 use Prim.Native.Nat.{_-_, _≤_}
 use Rattle.files.proofs.planning.step_lines.Statement.{statement}

@@ -1,3 +1,4 @@
+-- `files::reading::named_length` is safe: a length that is not negative fits.
 use mir.Val.{toZ, ofZ}
 use mir.Facts.{fits-natAbs, sfits-toZ, fits-ofZ}
 use mir.Syntax.{w64}

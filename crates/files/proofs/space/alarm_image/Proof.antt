@@ -1,3 +1,4 @@
+-- `files::space::alarm_image` meets its contract: the outcome of what alarm answered.
 use Rattle.files.specs.Outcomes.{alarmOutcome}
 use mathlib.Core.Path.{sym, ap, _∙_}
 use borrow.Author.Needs.{needs}

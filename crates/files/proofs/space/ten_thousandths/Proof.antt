@@ -1,3 +1,4 @@
+-- `files::space::ten_thousandths` meets its contract.
 use Rattle.files.specs.Ratios.{tenThousandths}
 use borrow.Author.Tests.{eq-eqb, ne-eqb}
 use borrow.Author.Needs.{needs}
