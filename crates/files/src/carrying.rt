@@ -1,8 +1,9 @@
 // Plans carried out on an image file.
+use crate::Length;
 use crate::MAX_IMAGE_BYTES;
 use crate::Outcome;
 use crate::PLAN_ROOM;
-use crate::PLAN_ROOM_STEPS;
+use crate::READ_STEPS;
 use crate::Status;
 use crate::Word;
 use crate::making::rewrite;
@@ -11,7 +12,6 @@ use crate::reading::read_file;
 use crate::reading::read_open;
 use carry::carry;
 use checker::Checked;
-use decimals::Number;
 use layout::Refusal;
 use steps::Decoded;
 use steps::Found;
@@ -30,10 +30,10 @@ fn asked_of(n: u64, whole: u64) -> u64
     if whole < n {
         return n;
     }
-    if n < PLAN_ROOM_STEPS {
+    if n < READ_STEPS as u64 {
         return n;
     }
-    PLAN_ROOM_STEPS
+    READ_STEPS as u64
 }
 
 fn is_link(d: Decoded) -> bool {
@@ -130,6 +130,9 @@ fn carry_stages(
     if !carry_copy(fd, name, image, length, request, plan, early) {
         return false;
     }
+    if early == n {
+        return true;
+    }
     carry_copy(fd, name, image, length, request, plan, n)
 }
 
@@ -195,8 +198,8 @@ fn carry_plan(request: Request, plan: &[u8], n: u64) -> Outcome {
 fn carry_long(request: Request, plan: &[u8], n: u64) -> Outcome {
     let length = file_length(2);
     match length {
-        Number::Value(bytes) => carry_plan(request, plan, asked_of(n, bytes / STEP_BYTES as u64)),
-        Number::Malformed => Outcome::Unreadable,
+        Length::Bytes(bytes) => carry_plan(request, plan, asked_of(n, bytes / STEP_BYTES as u64)),
+        Length::Unknown => Outcome::Unreadable,
     }
 }
 

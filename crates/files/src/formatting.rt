@@ -2,9 +2,7 @@
 use crate::MAX_IMAGE_BYTES;
 use crate::Outcome;
 use crate::Word;
-use crate::arguments::number;
 use crate::making::make_file;
-use decimals::Number;
 use layout::Formatted;
 use layout::MAX_CHUNK_UNITS;
 use layout::MAX_CHUNKS;

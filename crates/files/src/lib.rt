@@ -1,7 +1,13 @@
 // The work of the programs: their arguments, their files, and what they print. Each program is one call of `commands`.
+use checker::MAX_STEPS;
+use layout::MAX_CHUNK_UNITS;
+use layout::MAX_CHUNKS;
+use layout::MAX_UNITS;
 use layout::Refusal;
+use layout::TRAILER_BYTES;
 use report::Level;
 use steps::Request;
+use steps::STEP_BYTES;
 
 mod arguments;
 mod carrying;
@@ -15,16 +21,16 @@ mod saying;
 mod space;
 
 // The longest image that the limits allow. A longer file is no image, whatever is in it.
-pub const MAX_IMAGE_BYTES: usize = 38944;
+pub const MAX_IMAGE_BYTES: usize = 8 * (MAX_CHUNKS + MAX_UNITS) as usize + TRAILER_BYTES;
 
-// Of a plan file as many bytes are read as 65 steps have, one step more than a plan may. A longer plan breaks rule 1 by its length, and so do its first 65
-// steps: the answer is the same. Only how many steps a plan has must then be asked of the file (`asked_of`).
-pub const PLAN_ROOM: usize = 1040;
+// Of a plan file one step more is read than a plan may have. A longer plan breaks rule 1 by its length, and so do its first 65 steps: the answer is the
+// same (`long-checked` in proofs/Theorems). Only how many steps a plan has must then be asked of the file (`asked_of`, `long-carried`).
+pub const READ_STEPS: usize = MAX_STEPS + 1;
 
-pub const PLAN_ROOM_STEPS: u64 = 65;
+pub const PLAN_ROOM: usize = STEP_BYTES * READ_STEPS;
 
-// The longest plan that the planner writes: k + P + 3 steps, with k and P at most 16.
-pub const MAX_OWN_PLAN_BYTES: usize = 560;
+// The longest plan that the planner writes: k + P + 3 steps, with k at most P.
+pub const OWN_PLAN_ROOM: usize = STEP_BYTES * (2 * MAX_CHUNK_UNITS as usize + 3);
 
 // Longer than any argument that Linux hands a program, so that a number may have as many digits as it likes.
 pub const ARGUMENT_ROOM: usize = 131072;
@@ -51,6 +57,12 @@ pub enum Status {
 pub struct Content {
     pub status: Status,
     pub length: usize,
+}
+
+// How many bytes a file has. A pipe cannot tell.
+pub enum Length {
+    Bytes(u64),
+    Unknown,
 }
 
 // The word of a program's last line where it has an answer.

@@ -1,6 +1,6 @@
 // Plans: made, printed in words, and checked.
 use crate::MAX_IMAGE_BYTES;
-use crate::MAX_OWN_PLAN_BYTES;
+use crate::OWN_PLAN_ROOM;
 use crate::Outcome;
 use crate::PLAN_ROOM;
 use crate::Status;
@@ -112,7 +112,7 @@ fn plan_image(image: &[u8], request: Request, room: &mut [u8]) -> Outcome {
 // Plans a request on the image that argument 1 names.
 pub(crate) fn plan_file(request: Request) -> Outcome {
     let mut image = [0u8; MAX_IMAGE_BYTES];
-    let mut room = [0u8; MAX_OWN_PLAN_BYTES];
+    let mut room = [0u8; OWN_PLAN_ROOM];
     let content = read_file(1, &mut image);
     let status = content.status;
     let length = content.length;

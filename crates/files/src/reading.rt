@@ -1,8 +1,8 @@
 // Files that arguments name, read into lent room.
 use crate::Content;
+use crate::Length;
 use crate::Status;
 use crate::saying::complain;
-use decimals::Number;
 use libc::SEEK_END;
 ghost use Rattle.io.specs.Counts.{Counts};
 
@@ -68,28 +68,28 @@ pub(crate) fn read_file(i: usize, room: &mut [u8]) -> Content
 }
 
 // How many bytes the file of a name has.
-fn named_length(name: &[u8]) -> Number {
+fn named_length(name: &[u8]) -> Length {
     let fd = os::open_read(name);
     if fd < 0 {
         os::fail(name);
-        return Number::Malformed;
+        return Length::Unknown;
     }
     let end = libc::lseek(fd, 0, SEEK_END);
     libc::close(fd);
     if end < 0 {
         complain(name, b"its length cannot be told");
-        return Number::Malformed;
+        return Length::Unknown;
     }
-    Number::Value(end as u64)
+    Length::Bytes(end as u64)
 }
 
-// How many bytes the file has that argument i names. A pipe cannot tell.
-pub(crate) fn file_length(i: usize) -> Number {
+// How many bytes the file has that argument i names.
+pub(crate) fn file_length(i: usize) -> Length {
     let mut name = io::buffer();
     let length = os::arg(i, &mut name);
     if os::errno() != 0 {
         os::fail(b"file name");
-        return Number::Malformed;
+        return Length::Unknown;
     }
     named_length(&name[..length])
 }
