@@ -72,7 +72,7 @@ pub record MapWords (p k : ℕ) (free : ℕ → Bool) (xs : List Step) : Type 0 
   -- "all MAP steps on one free map"
   pub one-map : (i i′ m m′ j j′ : ℕ) (v v′ : Value) → At xs i (Map m j v) → At xs i′ (Map m′ j′ v′) → m ≡ m′
   pub free-map : (i m j : ℕ) (v : Value) → At xs i (Map m j v) → free m ≡ true
-  -- "each word 0 to P-1 once"; rule 1 has that there is no other
+  -- "each word 0 to P-1 once", and no other
   pub each : (j : ℕ) → j < p → (i : ℕ) × (m : ℕ) × (v : Value) × At xs i (Map m j v)
   pub once : (i i′ m m′ j : ℕ) (v v′ : Value) → At xs i (Map m j v) → At xs i′ (Map m′ j v′) → i ≡ i′
   pub no-other : (i m j : ℕ) (v : Value) → At xs i (Map m j v) → j < p

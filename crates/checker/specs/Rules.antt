@@ -106,7 +106,8 @@ unitOf j (Map k i v ∷ xs) = unitOf j xs
 unitOf j (Link i v ∷ xs) = unitOf j xs
 unitOf j (Fence ∷ xs) = unitOf j xs
 
--- what word j of the new map holds: "word j is piece j's unit for j below k, else X"
+-- What word j of the new map holds: "word j is piece j's unit for j below k, else X". It has a name of its own, beside `unitOf`, because a later
+-- edition's maps (request 4) change what word j holds.
 abbrev pub wordFor : List Step → ℕ → ℕ
 wordFor xs j = unitOf j xs
 
@@ -153,7 +154,7 @@ inRange g (Map k j v) = ltb k (g .m) && ltb j (mapWords g) && valueBelow (g .n) 
 inRange g (Link i v) = ltb i (g .c) && valueBelow (g .m) v
 inRange g Fence = true
 
--- of 16 bytes that are none of the four kinds, or have an unused field that is not 0, no step
+-- bytes that say no step break the rule
 abbrev pub wholeInRange : Shape → Decoded → Bool
 wholeInRange g (Whole x) = inRange g x
 wholeInRange g Malformed = false

@@ -21,6 +21,7 @@ module _ {A : Type 0} where
   -- From the volume `start` of shape g, with a ledger that gave l then, the events es came. Where es is `past ++ e ∷ later`, event e found the volume
   -- `run start past` and left `after (run start past) e`.
   pub record Kept (g : Shape) (start : Volume A) (l : ℕ → List A) (es : List (Event A)) : Type 0 where
+    -- Every beginning of a list is a list too: so these three hold after each event.
     -- The image is sound, with the trailer that it had.
     pub sound : Sound g (run start es .image)
     -- No unit has two owners: "A unit's owners are the chunks whose maps name it."

@@ -1,4 +1,5 @@
--- "what is written loads back as what was meant": what an accepted plan leaves that is carried out whole, from any hand and from the planner's own.
+-- Demand 2's "what is written loads back as what was meant": what an accepted plan leaves that is carried out whole, from any hand and from the
+-- planner's own.
 use Prim.Native.Nat.{ℕ, _*_, _≤_, _<_}
 use mathlib.Core.Path.{_≡_}
 use mathlib.Core.Logic.{_≢_}

@@ -76,7 +76,7 @@ encode (Link i v) = fieldBytes 3 i 0 (fieldOf v)
 -- "FENCE: 4, 0, 0, 0."
 encode Fence = fieldBytes 4 0 0 0
 
--- what four fields say: a step "of the four kinds" with "unused fields 0", or none
+-- what four fields say: a step "of the four kinds", its unused fields 0 (DATA's last field is left to rule 1), or none
 unfoldable pub decodeFields : ℕ → ℕ → ℕ → ℕ → Decoded
 decodeFields kind a b d =
     let fence = cond (eqb a 0) (cond (eqb b 0) (cond (eqb d 0) (Whole Fence) Malformed) Malformed) Malformed in

@@ -32,7 +32,7 @@ pub enum Step {
     Fence,
 }
 
-// What 16 bytes say: a step, or none of the four kinds.
+// What 16 bytes say: a step, or none: another kind, or a LINK or FENCE whose unused fields are not 0.
 pub enum Decoded {
     Whole(Step),
     Malformed,
