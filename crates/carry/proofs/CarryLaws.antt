@@ -25,15 +25,8 @@ use Rattle.steps.specs.declared.Decoded.{Decoded}
 use Rattle.steps.specs.declared.Decoded.the-variants.{Whole, Malformed}
 use Rattle.steps.specs.Steps.{wordOf}
 use Rattle.checker.specs.Rules.{valueBelow, inRange, wholeInRange}
-use Rattle.carry.specs.Carry.{carry}
+use Rattle.carry.specs.Carry.{carry, Misses}
 use Rattle.carry.specs.Carrying.{carryDecoded}
-
--- the step does not store word q of an image
-abbrev pub Misses : Shape → ℕ → Step → Type 0
-Misses g q (Data u j w) = Unit {0}
-Misses g q (Map k j v) = mapWordPlace g k j ≢ q
-Misses g q (Link i v) = i ≢ q
-Misses g q Fence = Unit {0}
 
 value-fits : (b : ℕ) (v : Value) → b ≤ X → valueBelow b v ≡ true → wordOf v ≤ X
 value-fits b (Number w) h k = omega (arith, ltb-true w b k)

@@ -19,8 +19,8 @@ use Rattle.checker.specs.declared.Checked.the-variants.{Accepted, Refused as De
 use Rattle.checker.specs.Rules.{checked}
 use Rattle.checker.proofs.StepLaws.{InRange, each-in-range}
 use Rattle.checker.proofs.Accepting.{accepted-of}
-use Rattle.carry.specs.Carry.{carry, carryAll, carried, carryAnswer, leftBy, carryImage}
-use Rattle.carry.proofs.CarryLaws.{Misses, on-carry, byte-miss, carry-trailer}
+use Rattle.carry.specs.Carry.{carry, carryAll, carried, Misses, carryAnswer, leftBy, carryImage}
+use Rattle.carry.proofs.CarryLaws.{on-carry, byte-miss, carry-trailer}
 use Rattle.carry.proofs.AnswerLaws.{answer-accepted, accepted-answer}
 
 each-take : (P : Step → Type 0) (n : ℕ) (xs : List Step) → Each P xs → Each P (take n xs)

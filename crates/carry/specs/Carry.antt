@@ -1,9 +1,11 @@
 -- Carrying out the first n steps of a plan: what it answers, and every byte of the image afterwards.
 use Prim.Native.Nat.{ℕ}
+use mathlib.Core.Logic.{_≢_}
 use mathlib.Core.Bool.{cond}
 use mathlib.Core.List.{List, [], _∷_}
 use lib.Dec.{ltb}
 use lib.ListN.{take}
+use Rattle.layout.specs.declared.Shape.{Shape}
 use Rattle.layout.specs.declared.Refusal.the-variants.{Range}
 use Rattle.layout.specs.Layout.{shapeOf, putWord, mapWordPlace}
 use Rattle.image.specs.Verdicts.{verdict}
@@ -33,6 +35,13 @@ carryAll s (x ∷ xs) = carryAll (carry s x) xs
 -- after the first n steps of a plan
 unfoldable pub carried : List ℕ → List ℕ → ℕ → List ℕ
 carried s plan n = carryAll s (take n (stepsOf plan))
+
+-- "and no other byte": a step does not store word q of an image of shape g; bytes 8·q to 8·q+7 are that word's
+abbrev pub Misses : Shape → ℕ → Step → Type 0
+Misses g q (Data u j w) = Unit {0}
+Misses g q (Map k j v) = mapWordPlace g k j ≢ q
+Misses g q (Link i v) = i ≢ q
+Misses g q Fence = Unit {0}
 
 -- ---- the answer: "Carrying out the first n steps checks the plan"
 

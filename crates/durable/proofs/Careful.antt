@@ -20,7 +20,8 @@ use Rattle.checker.specs.Rules.{planMap, units}
 use Rattle.steps.specs.Encodable.{Each}
 use Rattle.checker.proofs.StepLaws.{InRange, each-two, OnMap, NoMap, Spares, each-spares, none-empty}
 use Rattle.checker.proofs.Facts.{Writes, Discards}
-use Rattle.carry.proofs.CarryLaws.{Misses, word-below, chunk-below}
+use Rattle.carry.specs.Carry.{Misses}
+use Rattle.carry.proofs.CarryLaws.{word-below, chunk-below}
 use Rattle.durable.specs.Events.{Volume, Event, settle, holds}
 use Rattle.durable.proofs.Settle.{on-settle, keep-word, keep-content}
 
