@@ -13,7 +13,7 @@ use Rattle.steps.specs.declared.Step.{Step}
 use Rattle.steps.specs.declared.Request.{Request}
 use Rattle.steps.specs.Steps.{stepsOf}
 use Rattle.checker.specs.Rules.{Known, rule1, rule2, rule3, rule4, rule5, brokenRule}
-use Rattle.checker.specs.Reading.{Rule, Kept, LowestBroken}
+use Rattle.checker.specs.Reading.{Rule, KeepsAll, LowestBroken}
 use Rattle.checker.proofs.Deciding.{broken-1, broken-2, broken-3, broken-4, broken-5, broken-none}
 use Rattle.checker.proofs.Wording.{rule1-told, rule1-tested, rule2-told, rule2-tested, rule3-told, rule3-tested, rule4-told, rule4-tested}
 use Rattle.checker.proofs.Fencing.{rule5-told, rule5-tested}
@@ -27,7 +27,7 @@ module _ (kn : Known) (r : Request) (plan : List ℕ) (some : 1 ≤ mapWords (kn
 
   -- what the lowest rule broken says; 0 is none
   abbrev Says : ℕ → Type 0
-  Says zero = Kept kn r plan
+  Says zero = KeepsAll kn r plan
   Says (suc n) = LowestBroken kn r plan (suc n)
 
   -- the rules below n, and one more
@@ -55,7 +55,7 @@ module _ (kn : Known) (r : Request) (plan : List ℕ) (some : 1 ≤ mapWords (kn
           below-5 : (i : ℕ) → i < 5 → Rule kn r plan i
           below-5 = next 4 below-4 (rule4-told xs p some (kn .mapFree) r (kn .chunkMapped) e3 e4)
 
-          kept : rule5 (kn .chunkMapped) r xs ≡ true → Kept kn r plan
+          kept : rule5 (kn .chunkMapped) r xs ≡ true → KeepsAll kn r plan
           kept e5 zero = tt
           kept e5 (suc zero) = below-5 1 (omega arith)
           kept e5 (suc (suc zero)) = below-5 2 (omega arith)
@@ -99,10 +99,10 @@ module _ (kn : Known) (r : Request) (plan : List ℕ) (some : 1 ≤ mapWords (kn
           subst Says (broken-1 kn r plan e) (record { broken = λ k. contradict (rule1-tested (kn .shape) plan k) e; lower = below-1 })
 
   -- no rule is broken exactly where all five are kept
-  pub unbroken-kept : brokenRule kn r plan ≡ 0 → Kept kn r plan
+  pub unbroken-kept : brokenRule kn r plan ≡ 0 → KeepsAll kn r plan
   unbroken-kept e = subst Says e says
 
-  pub kept-unbroken : Kept kn r plan → brokenRule kn r plan ≡ 0
+  pub kept-unbroken : KeepsAll kn r plan → brokenRule kn r plan ≡ 0
   kept-unbroken k = go (brokenRule kn r plan) refl
     where
       go : (n : ℕ) → brokenRule kn r plan ≡ n → n ≡ 0

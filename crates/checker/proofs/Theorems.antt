@@ -28,7 +28,7 @@ use Rattle.steps.specs.Steps.{wholeSteps, decodeAt, stepsOf, chunkOf}
 use Rattle.checker.specs.declared.Checked.{Checked}
 use Rattle.checker.specs.declared.Checked.the-variants.{Accepted, Refused}
 use Rattle.checker.specs.Rules.{Known, knownOf, brokenRule, broken, goodChunk, goodSize, judged, checked}
-use Rattle.checker.specs.Reading.{At, Rule1, Kept, LowestBroken, GoodRequest, Refuses, Answers}
+use Rattle.checker.specs.Reading.{At, Rule1, KeepsAll, LowestBroken, GoodRequest, Refuses, Answers}
 use Rattle.checker.proofs.Places.{step-told, step-there}
 use Rattle.checker.proofs.Lowest.{unbroken-kept, kept-unbroken, broken-lowest, lowest-broken}
 
@@ -46,10 +46,10 @@ read-is-step g plan h = step-there plan (λ i l. let s = h .steps i l in (s .0, 
 -- ---- the rules
 
 -- No rule is broken exactly where the five are kept, and rule n is the lowest broken exactly where the rules to read say so.
-pub unbroken-is-kept : (kn : Known) (r : Request) (plan : List ℕ) → 1 ≤ mapWords (kn .shape) → brokenRule kn r plan ≡ 0 → Kept kn r plan
+pub unbroken-is-kept : (kn : Known) (r : Request) (plan : List ℕ) → 1 ≤ mapWords (kn .shape) → brokenRule kn r plan ≡ 0 → KeepsAll kn r plan
 unbroken-is-kept = unbroken-kept
 
-pub kept-is-unbroken : (kn : Known) (r : Request) (plan : List ℕ) → 1 ≤ mapWords (kn .shape) → Kept kn r plan → brokenRule kn r plan ≡ 0
+pub kept-is-unbroken : (kn : Known) (r : Request) (plan : List ℕ) → 1 ≤ mapWords (kn .shape) → KeepsAll kn r plan → brokenRule kn r plan ≡ 0
 kept-is-unbroken = kept-unbroken
 
 pub broken-is-lowest : (kn : Known) (r : Request) (plan : List ℕ) → 1 ≤ mapWords (kn .shape) → (n : ℕ) → brokenRule kn r plan ≡ suc n
@@ -181,10 +181,10 @@ module _ (s : List ℕ) (r : Request) (plan : List ℕ) where
   holding-is-answered (Refused x) h = given x h
 
   -- The same, said of acceptance and of refusal 11 alone.
-  pub accepted-is-kept : Bytes s → checked s r plan ≡ Accepted → Sound g s × GoodRequest g r × Kept kn r plan
+  pub accepted-is-kept : Bytes s → checked s r plan ≡ Accepted → Sound g s × GoodRequest g r × KeepsAll kn r plan
   accepted-is-kept b e = subst (Answers s r plan) e (answer-holds b)
 
-  pub kept-is-accepted : Sound g s → GoodRequest g r → Kept kn r plan → checked s r plan ≡ Accepted
+  pub kept-is-accepted : Sound g s → GoodRequest g r → KeepsAll kn r plan → checked s r plan ≡ Accepted
   kept-is-accepted z h k = holding-is-answered Accepted (z, h, k)
 
   pub bad-plan-is-lowest : Bytes s → (n : ℕ) → checked s r plan ≡ Refused (BadPlan n) → Sound g s × GoodRequest g r × LowestBroken kn r plan n

@@ -143,8 +143,8 @@ Rule kn r plan (suc (suc (suc (suc (suc zero))))) = Rule5 r (kn .chunkMapped) (s
 Rule kn r plan (suc (suc (suc (suc (suc (suc n)))))) = Unit {0}
 
 -- the five rules are kept
-abbrev pub Kept : Known → Request → List ℕ → Type 0
-Kept kn r plan = (n : ℕ) → Rule kn r plan n
+abbrev pub KeepsAll : Known → Request → List ℕ → Type 0
+KeepsAll kn r plan = (n : ℕ) → Rule kn r plan n
 
 -- "lowest rule broken": rule n is not kept, and every one before it is
 pub record LowestBroken (kn : Known) (r : Request) (plan : List ℕ) (n : ℕ) : Type 0 where
@@ -179,5 +179,5 @@ Refuses s r plan BadAlarm = ⊥
 
 -- when it gives an answer: it accepts a plan where the image is sound, the request good and the five rules kept
 abbrev pub Answers : List ℕ → Request → List ℕ → Checked → Type 0
-Answers s r plan Accepted = Sound (shapeOf s) s × GoodRequest (shapeOf s) r × Kept (knownOf s r) r plan
+Answers s r plan Accepted = Sound (shapeOf s) s × GoodRequest (shapeOf s) r × KeepsAll (knownOf s r) r plan
 Answers s r plan (Refused x) = Refuses s r plan x
