@@ -18,4 +18,5 @@ pub mod Facts
 pub mod Wording
 pub mod Fencing
 pub mod Lowest
+pub mod Good
 pub mod Theorems

@@ -1,18 +1,17 @@
 -- The theorems of this crate that a reader wants: nothing else cites them. `Bytes s` says that each element of s is below 256, as every lent
 -- image's is.
-use Prim.Native.Nat.{ℕ, zero, suc, _*_, _<_, _≤_}
+use Prim.Native.Nat.{ℕ, zero, suc, _<_, _≤_}
 use mathlib.Core.Path.{_≡_, refl, ap, _∙_, subst}
 use mathlib.Core.Bool.{Bool, true, false, cond}
 use mathlib.Core.List.{List}
 use native.Mathlib.Omega.{arith}
-use lib.Dec.{leb}
-use borrow.Author.Tests.{ltb-true, ltb-false, lt-ltb, le-ltb, leb-true, le-leb}
-use Rattle.search.proofs.Bools.{contradict, is-false, and-left, and-right, and-intro}
+use borrow.Author.Tests.{ltb-true, ltb-false, lt-ltb, le-ltb}
+use Rattle.search.proofs.Bools.{contradict, is-false}
 use Rattle.words.proofs.Numbers.{Bytes}
 use Rattle.layout.specs.declared.Shape.{Shape}
 use Rattle.layout.specs.declared.Refusal.{Refusal}
 use Rattle.layout.specs.declared.Refusal.the-variants.{Short, Foreign, Geometry, BadLink, BadMap, Shared, Range, Size, NoRoom, Small, BadPlan, BadAlarm}
-use Rattle.layout.specs.Layout.{unitBytes, mapWords, shapeOf}
+use Rattle.layout.specs.Layout.{mapWords, shapeOf}
 use Rattle.image.specs.declared.Verdict.{Verdict}
 use Rattle.image.specs.declared.Verdict.the-variants.{Passed, Refused as Unsound}
 use Rattle.image.specs.Soundness.{Sound}
@@ -23,12 +22,12 @@ use Rattle.image.proofs.Theorems.{passed-is-sound, sound-is-passed, refused-is-
 use Rattle.steps.specs.declared.Step.{Step}
 use Rattle.steps.specs.declared.Decoded.the-variants.{Whole}
 use Rattle.steps.specs.declared.Request.{Request}
-use Rattle.steps.specs.declared.Request.the-variants.{Write, Discard}
 use Rattle.steps.specs.Steps.{wholeSteps, decodeAt, stepsOf, chunkOf}
 use Rattle.checker.specs.declared.Checked.{Checked}
 use Rattle.checker.specs.declared.Checked.the-variants.{Accepted, Refused}
 use Rattle.checker.specs.Rules.{Known, knownOf, brokenRule, broken, goodChunk, goodSize, judged, checked}
 use Rattle.checker.specs.Reading.{At, Rule1, KeepsAll, LowestBroken, GoodRequest, Refuses, Answers}
+use Rattle.checker.proofs.Good.{good-told, chunk-tested, size-tested}
 use Rattle.checker.proofs.Places.{step-told, step-there}
 use Rattle.checker.proofs.Lowest.{unbroken-kept, kept-unbroken, broken-lowest, lowest-broken}
 
@@ -61,21 +60,6 @@ pub lowest-is-broken : (kn : Known) (r : Request) (plan : List ℕ) → 1 ≤ ma
 lowest-is-broken = lowest-broken
 
 -- ---- the answer
-
-chunk-good : (g : Shape) (r : Request) → GoodRequest g r → chunkOf r < g .c
-chunk-good g (Write c size) h = h .0
-chunk-good g (Discard c) h = h
-
-good-told : (g : Shape) (r : Request) → chunkOf r < g .c → goodSize g r ≡ true → GoodRequest g r
-good-told g (Write c size) b h =
-    let p = g .p * unitBytes in
-    (b, leb-true 1 size (and-left (leb 1 size) (leb size p) h), leb-true size p (and-right (leb 1 size) (leb size p) h))
-good-told g (Discard c) b h = b
-
-good-tested : (g : Shape) (r : Request) → GoodRequest g r → goodSize g r ≡ true
-good-tested g (Write c size) h =
-    let p = g .p * unitBytes in and-intro (leb 1 size) (leb size p) (le-leb 1 size (h .1)) (le-leb size p (h .2))
-good-tested g (Discard c) h = refl
 
 -- an image's own refusal, whatever follows
 own-told : (s : List ℕ) (r : Request) (plan : List ℕ) (x : Refusal) → Row s x → Refuses s r plan x
@@ -120,7 +104,7 @@ module _ (s : List ℕ) (r : Request) (plan : List ℕ) where
         by-size : chunkOf r < g .c → (b : Bool) → goodSize g r ≡ b
             → Answers s r plan (cond b (broken (brokenRule kn r plan)) (Refused Size))
         by-size l true e = by-rules (good-told g r l e) (brokenRule kn r plan) refl
-        by-size l false e = (z, l, λ h. contradict (good-tested g r h) e)
+        by-size l false e = (z, l, λ h. contradict (size-tested g r h) e)
 
         by-chunk : (b : Bool) → goodChunk g r ≡ b
             → Answers s r plan (cond b (cond (goodSize g r) (broken (brokenRule kn r plan)) (Refused Size)) (Refused Range))
@@ -137,7 +121,7 @@ module _ (s : List ℕ) (r : Request) (plan : List ℕ) where
 
     judged-rules : GoodRequest g r → judged s r plan ≡ broken (brokenRule kn r plan)
     unfolding judged
-    judged-rules h = rw (lt-ltb (chunkOf r) (g .c) (chunk-good g r h), good-tested g r h)
+    judged-rules h = rw (chunk-tested g r h, size-tested g r h)
 
   -- What the checker answers holds: it accepts only where the image is sound, the request good and the five rules kept, and refuses with 11 and place n
   -- only where rule n is the lowest broken.

@@ -6,16 +6,15 @@ use mathlib.Core.Bool.{Bool, true, false, cond}
 use mathlib.Core.List.{List, [], _∷_}
 use lib.ListN.{length, take, drop}
 use lib.Seq.{length-take-le, take-at}
-use lib.Dec.{ltb, leb}
-use borrow.Author.Tests.{lt-ltb, ltb-true, ltb-false, leb-true}
+use lib.Dec.{ltb}
+use borrow.Author.Tests.{lt-ltb, ltb-true, ltb-false}
 use Rattle.search.specs.Search.{firstOr}
 use Rattle.search.specs.Sets.{Lowest}
-use Rattle.search.proofs.Bools.{and-right}
 use Rattle.search.proofs.Members.{first-taken}
 use Rattle.search.proofs.Rising.{taken-lowest}
 use Rattle.layout.specs.declared.Refusal.{Refusal}
 use Rattle.layout.specs.declared.Refusal.the-variants.{Range, Size, NoRoom, Small}
-use Rattle.layout.specs.Layout.{X, unitBytes, shapeOf}
+use Rattle.layout.specs.Layout.{X, shapeOf}
 use Rattle.layout.proofs.Limits.{fitting-limits}
 use Rattle.image.specs.declared.Verdict.{Verdict}
 use Rattle.image.specs.declared.Verdict.the-variants.{Passed, Refused as Unsound}
@@ -23,15 +22,17 @@ use Rattle.image.specs.Claims.{Tested}
 use Rattle.image.specs.Verdicts.{verdict}
 use Rattle.image.specs.Free.{freeUnit, freeMap, freeUnits, freeMaps}
 use Rattle.image.specs.Answers.{ifSound}
-use Rattle.image.proofs.SoundLaws.{passed-tested, tested-passed}
+use Rattle.image.proofs.SoundLaws.{passed-tested}
 use Rattle.image.proofs.Refusing.{refused-row}
 use Rattle.image.proofs.Room.{freeUnit-below, freeMap-below, some-map-free, units-free}
 use Rattle.steps.specs.declared.Request.{Request}
 use Rattle.steps.specs.declared.Request.the-variants.{Write, Discard}
-use Rattle.steps.specs.Steps.{stepBytes, unitsFor, needOf, encodeAll}
+use Rattle.steps.specs.Steps.{stepBytes, unitsFor, chunkOf, needOf, encodeAll}
 use Rattle.steps.proofs.Codec.{length-encoded}
 use Rattle.checker.specs.declared.Checked.the-variants.{Accepted}
 use Rattle.checker.specs.Rules.{units, planMap, goodChunk, goodSize, checked}
+use Rattle.checker.specs.Reading.{GoodRequest}
+use Rattle.checker.proofs.Good.{good-told, chunk-tested, size-tested}
 use Rattle.planner.specs.declared.Planned.{Planned}
 use Rattle.planner.specs.declared.Planned.the-variants.{Steps, Refused}
 use Rattle.planner.specs.Planner.{planOf, planIn, planAnswer, written, planOut}
@@ -42,9 +43,8 @@ use Rattle.planner.proofs.Accepted.{plan-units, plan-map, planned-accep
 
 -- the request is good, on a sound image
 pub record Good (s : List ℕ) (r : Request) : Type 0 where
-  pub sound : Tested s
-  pub chunk : goodChunk (shapeOf s) r ≡ true
-  pub size : goodSize (shapeOf s) r ≡ true
+  pub sound : verdict s ≡ Passed
+  pub request : GoodRequest (shapeOf s) r
 
 -- and n steps were written
 pub record Answered (s : List ℕ) (r : Request) (room n : ℕ) : Type 0 where
@@ -86,7 +86,7 @@ module _ (s : List ℕ) (r : Request) (room n : ℕ) where
           let f = steps-found (goodChunk (shapeOf s) r) (goodSize (shapeOf s) r) (ltb (length (freeUnits s)) (needOf r)) (ltb room (stepBytes * steps))
           (length (freeUnits s)) steps n h in
           record {
-            good = record { sound = passed-tested s p; chunk = f .0; size = f .1 };
+            good = record { sound = p; request = good-told (shapeOf s) r (ltb-true (chunkOf r) (shapeOf s .c) (f .0)) (f .1) };
             free = ltb-false (length (freeUnits s)) (needOf r) (f .2);
             steps = sym (f .4);
             fits = let k = ltb-false room (stepBytes * steps) (f .3) in let z = f .4 in omega arith;
@@ -109,7 +109,7 @@ pub own-plans-pass : (s : List ℕ) (r : Request) (out : List ℕ) (n : ℕ) →
     → checked s r (take (stepBytes * n) (planOut s r out)) ≡ Accepted
 own-plans-pass s r out n e =
     let a = answered s r (length out) n e in
-    ap (checked s r) (written-is-plan s r out n e) ∙ planned-accepted s r (a .good .sound) (a .good .chunk) (a .good .size) (a .free)
+    ap (checked s r) (written-is-plan s r out n e) ∙ planned-accepted s r (passed-tested s (a .good .sound)) (chunk-tested (shapeOf s) r (a .good .request)) (size-tested (shapeOf s) r (a .good .request)) (a .free)
 
 -- ---- 9 "fewer than k units free"
 
@@ -130,18 +130,15 @@ module _ (s : List ℕ) (r : Request) (room : ℕ) where
           (length (freeUnits s)) steps n h in
           let low = ltb-true (length (freeUnits s)) (needOf r) (f .2) in
           let z = f .3 in
-          (record { sound = passed-tested s p; chunk = f .0; size = f .1 }, sym z, omega arith)
+          (record { sound = p; request = good-told (shapeOf s) r (ltb-true (chunkOf r) (shapeOf s .c) (f .0)) (f .1) }, sym z, omega arith)
 
   pub no-room-is-refused : Good s r → length (freeUnits s) < needOf r → planAnswer s r room ≡ Refused (NoRoom (length (freeUnits s)))
   unfolding planIn
-  no-room-is-refused g h = rw (tested-passed s (g .sound), g .chunk, g .size, lt-ltb (length (freeUnits s)) (needOf r) h)
+  no-room-is-refused g h = rw (g .sound, chunk-tested (shapeOf s) r (g .request), size-tested (shapeOf s) r (g .request), lt-ltb (length (freeUnits s)) (needOf r) h)
 
 -- a good request needs at most P units
 need-few : (s : List ℕ) (r : Request) → Good s r → needOf r ≤ shapeOf s .p
-need-few s (Write i size) g =
-    let p = shapeOf s .p in
-    let h = leb-true size (p * unitBytes) (and-right (leb 1 size) (leb size (p * unitBytes)) (g .size)) in
-    omega arith
+need-few s (Write i size) g = let h = g .request .2 in omega arith
 need-few s (Discard i) g = omega arith
 
 -- "With N at least (C+1)·P it never does for one write."
@@ -158,31 +155,37 @@ module _ (s : List ℕ) (i size room n : ℕ) (e : planAnswer s (Write i size) r
   told : Answered s (Write i size) room n
   told = answered s (Write i size) room n e
 
+  tested : Tested s
+  tested = passed-tested s (told .good .sound)
+
+  chunk : goodChunk (shapeOf s) (Write i size) ≡ true
+  chunk = chunk-tested (shapeOf s) (Write i size) (told .good .request)
+
+  good-size : goodSize (shapeOf s) (Write i size) ≡ true
+  good-size = size-tested (shapeOf s) (Write i size) (told .good .request)
+
   pub on-lowest-units : Lowest (freeUnit s) (unitsFor size) (units (planOf s (Write i size)))
   unfolding freeUnits
   on-lowest-units =
-      let g = told .good in
-      subst (Lowest (freeUnit s) (unitsFor size)) (sym (plan-units s i size (g .sound) (g .chunk) (g .size) (told .free)))
+      subst (Lowest (freeUnit s) (unitsFor size)) (sym (plan-units s i size tested chunk good-size (told .free)))
       (taken-lowest (freeUnit s) (shapeOf s .n) (unitsFor size) (freeUnit-below s) (told .free))
 
   pub on-lowest-map : Lowest (freeMap s) 1 (planMap (planOf s (Write i size)) ∷ [])
   unfolding freeMaps
   on-lowest-map =
-      let g = told .good in
-      let some = some-map-free s (g .sound .fitting) in
+      let some = some-map-free s (tested .fitting) in
       subst (Lowest (freeMap s) 1)
-      (first-taken X (freeMaps s) some ∙ ap (λ (m : ℕ). m ∷ []) (sym (plan-map s i size (g .sound) (g .chunk) (g .size) (told .free))))
+      (first-taken X (freeMaps s) some ∙ ap (λ (m : ℕ). m ∷ []) (sym (plan-map s i size tested chunk good-size (told .free))))
       (taken-lowest (freeMap s) (shapeOf s .m) 1 (freeMap-below s) some)
 
   -- "That is k+P+3 steps, at most 35."
   pub steps-counted : (n ≡ unitsFor size + shapeOf s .p + 3) × (n ≤ 35)
   unfolding planOf
   steps-counted =
-      let g = told .good in
       let k = unitsFor size in
       let c = told .steps in
       let a = length-writeSteps (take k (freeUnits s)) (firstOr X (freeMaps s)) (shapeOf s .p) i in
       let b = length-take-le k (freeUnits s) (told .free) in
-      let f = need-few s (Write i size) g in
-      let l = fitting-limits s (g .sound .fitting) in
+      let f = need-few s (Write i size) (told .good) in
+      let l = fitting-limits s (tested .fitting) in
       (omega arith, omega (arith, l .p-high))
