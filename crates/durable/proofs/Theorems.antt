@@ -1,7 +1,6 @@
 -- The theorems of this crate that a reader wants: demand 3, that events which finish exist, and that what is written loads back. `kept-from-sound`, the
 -- statement from any sound volume, stands in History.antt.
 use mathlib.Core.Path.{_≡_, refl, sym, ap, ap₂, _∙_, subst}
-use mathlib.Core.Bool.{true}
 use borrow.Author.Tests.{eq-eqb}
 use Prim.Native.Nat.{ℕ, _≤_}
 use lib.ListN.{length}
@@ -11,7 +10,7 @@ use Rattle.search.specs.Search.{from, firstOr}
 use Rattle.image.specs.Soundness.{unitsOf, Sound}
 use Rattle.image.specs.Free.{freeUnits, freeMaps}
 use Rattle.layout.specs.declared.Shape.{Shape}
-use Rattle.layout.specs.Layout.{X, fresh}
+use Rattle.layout.specs.Layout.{X, shapeOf, fresh}
 use Rattle.layout.specs.Format.{formatImage}
 use Rattle.layout.proofs.Formatting.{formatted}
 use Rattle.layout.proofs.Limits.{limits}
@@ -23,7 +22,9 @@ use Rattle.steps.specs.declared.Request.the-variants.{Write, Discard}
 use Rattle.steps.specs.Steps.{wholeSteps, stepsOf, chunkOf, needOf, encodeAll}
 use Rattle.steps.proofs.Codec.{whole-encoded}
 use Rattle.checker.specs.declared.Checked.the-variants.{Accepted}
-use Rattle.checker.specs.Rules.{checked, goodChunk, goodSize, planMap}
+use Rattle.checker.specs.Rules.{checked, planMap}
+use Rattle.checker.specs.Reading.{GoodRequest}
+use Rattle.checker.proofs.Good.{chunk-tested, size-tested}
 use Rattle.carry.specs.Carry.{carryImage}
 use Rattle.planner.specs.Planner.{planOf}
 use Rattle.planner.proofs.Accepted.{planned-accepted, plan-map, plan-pieces, plan-read}
@@ -51,20 +52,22 @@ demand A g buffer content es w =
 
 -- ---- the planner's own plans
 
+good-here : (g : Shape) (s : List ℕ) (r : Request) → Sound g s → GoodRequest g r → GoodRequest (shapeOf s) r
+good-here g s r z k = subst (λ (q : Shape). GoodRequest q r) (sym (sound-shape g s z)) k
+
 own-accepted :
-    (g : Shape) (s : List ℕ) (r : Request) → Sound g s → goodChunk g r ≡ true → goodSize g r ≡ true → needOf r ≤ length (freeUnits s)
+    (g : Shape) (s : List ℕ) (r : Request) → Sound g s → GoodRequest g r → needOf r ≤ length (freeUnits s)
     → checked s r (encodeAll (planOf s r)) ≡ Accepted
-own-accepted g s r z c b h =
-    let same = sound-shape g s z in
-    planned-accepted s r (sound-tested g s z) (ap (λ (q : Shape). goodChunk q r) same ∙ c) (ap (λ (q : Shape). goodSize q r) same ∙ b) h
+own-accepted g s r z k h =
+    planned-accepted s r (sound-tested g s z) (chunk-tested (shapeOf s) r (good-here g s r z k)) (size-tested (shapeOf s) r (good-here g s r z k)) h
 
 -- They finish and deliver.
 pub own-delivers : OwnDelivers
-own-delivers A g v r payload z c b h =
+own-delivers A g v r payload z k h =
     let s = v .image in
     let e = ownEvent v r payload in
     let plan = encodeAll (planOf s r) in
-    let f = whole-finished v e (own-accepted g s r z c b h) (eq-eqb (wholeSteps plan) (wholeSteps plan) refl) in
+    let f = whole-finished v e (own-accepted g s r z k h) (eq-eqb (wholeSteps plan) (wholeSteps plan) refl) in
     (f, own-holds g v e (sound-intact g s z) finished f finished-tried ∙ entered-own (holds v) e finished refl)
 
 -- ---- "what is written loads back as what was meant"
@@ -77,25 +80,24 @@ plans-load-back = loads-back
 -- The planner's own: the lowest free map and the lowest free units of the image, or an unmapped chunk.
 pub own-loads-back : OwnLoadsBack
 unfolding from
-own-loads-back g s (Write i size) z c b h =
-    let same = sound-shape g s z in
+own-loads-back g s (Write i size) z k h =
     let t = sound-tested g s z in
-    let gc = ap (λ (q : Shape). goodChunk q (Write i size)) same ∙ c in
-    let gs = ap (λ (q : Shape). goodSize q (Write i size)) same ∙ b in
+    let good = good-here g s (Write i size) z k in
+    let gc = chunk-tested (shapeOf s) (Write i size) good in
+    let gs = size-tested (shapeOf s) (Write i size) good in
     let plan = encodeAll (planOf s (Write i size)) in
     let read = plan-read s i size t gc gs h in
     let left = carryImage s (Write i size) plan (wholeSteps plan) in
     subst (λ (us : List ℕ). LoadsBack g s i (firstOr X (freeMaps s)) us left) (ap (newUnits (Write i size)) read ∙ plan-pieces s i size t gc gs h)
     (subst (λ (l : ℕ). LoadsBack g s i l (newUnits (Write i size) (stepsOf plan)) left) (ap planMap read ∙ plan-map s i size t gc gs h)
-    (loads-back g s (Write i size) plan z (own-accepted g s (Write i size) z c b h)))
-own-loads-back g s (Discard i) z c b h = loads-back g s (Discard i) (encodeAll (planOf s (Discard i))) z (own-accepted g s (Discard i) z c b h)
+    (loads-back g s (Write i size) plan z (own-accepted g s (Write i size) z k h)))
+own-loads-back g s (Discard i) z k h = loads-back g s (Discard i) (encodeAll (planOf s (Discard i))) z (own-accepted g s (Discard i) z k h)
 
 -- And by the calls: the planner's answer, what it wrote, and what carrying it out leaves.
 pub written-loads-back : WrittenLoadsBack
 written-loads-back g s r out n z e =
     let a = answered s r (length out) n e in
-    let same = sym (sound-shape g s z) in
     let plan = encodeAll (planOf s r) in
     let count : wholeSteps plan ≡ n = whole-encoded (planOf s r) ∙ sym (a .steps) in
     subst (LoadsBack g s (chunkOf r) (ownLink s r) (ownUnits s r)) (ap₂ (carryImage s r) (sym (written-is-plan s r out n e)) count)
-    (own-loads-back g s r z (ap (λ (q : Shape). goodChunk q r) same ∙ a .good .chunk) (ap (λ (q : Shape). goodSize q r) same ∙ a .good .size) (a .free))
+    (own-loads-back g s r z (subst (λ (q : Shape). GoodRequest q r) (sound-shape g s z) (a .good .request)) (a .free))

@@ -3,7 +3,7 @@
 use Prim.Native.Nat.{ℕ, _*_, _≤_, _<_}
 use mathlib.Core.Path.{_≡_}
 use mathlib.Core.Logic.{_≢_}
-use mathlib.Core.Bool.{true, not, _&&_, _||_}
+use mathlib.Core.Bool.{not, _&&_, _||_}
 use mathlib.Core.List.{List, map}
 use lib.ListN.{length, take}
 use lib.Dec.{eqb}
@@ -20,7 +20,8 @@ use Rattle.steps.specs.declared.Request.{Request}
 use Rattle.steps.specs.declared.Request.the-variants.{Write, Discard}
 use Rattle.steps.specs.Steps.{stepBytes, stepsOf, wholeSteps, chunkOf, needOf, encodeAll}
 use Rattle.checker.specs.declared.Checked.the-variants.{Accepted}
-use Rattle.checker.specs.Rules.{planMap, unitOf, goodChunk, goodSize, checked}
+use Rattle.checker.specs.Rules.{planMap, unitOf, checked}
+use Rattle.checker.specs.Reading.{GoodRequest}
 use Rattle.planner.specs.declared.Planned.the-variants.{Steps}
 use Rattle.planner.specs.Planner.{planOf, planAnswer, planOut}
 use Rattle.carry.specs.Carry.{carryImage}
@@ -70,7 +71,7 @@ ownUnits s r = take (needOf r) (freeUnits s)
 -- on any sound image, for every good request that the free units suffice for
 abbrev pub OwnLoadsBack : Type 0
 OwnLoadsBack =
-    (g : Shape) (s : List ℕ) (r : Request) → Sound g s → goodChunk g r ≡ true → goodSize g r ≡ true → needOf r ≤ length (freeUnits s)
+    (g : Shape) (s : List ℕ) (r : Request) → Sound g s → GoodRequest g r → needOf r ≤ length (freeUnits s)
     → LoadsBack g s (chunkOf r) (ownLink s r) (ownUnits s r) (carryImage s r (encodeAll (planOf s r)) (wholeSteps (encodeAll (planOf s r))))
 
 -- The same by the calls: where the planner answers n steps, carrying out those n, as they stand in the lent output.
