@@ -34,7 +34,7 @@ module _ {A : Type 0} (e : Event A) where
       ∙ carries (suc i) n xs (next e i x v) (λ m p q. h m (omega arith) (omega arith)) (λ m p q. k m (omega arith) (omega arith))
       ∙ ap (λ (b : Bool). carryAll (store b x (v .image)) (take n xs)) (h i (omega arith) (omega arith))
 
-  pub carried-out : (v : Volume A) → ((i : ℕ) → i < e .count → lands e i ≡ true) → settle e 0 (stepsOf (e .plan)) v .image ≡ carried (v .image) (e .plan) (e .count)
+  carried-out : (v : Volume A) → ((i : ℕ) → i < e .count → lands e i ≡ true) → settle e 0 (stepsOf (e .plan)) v .image ≡ carried (v .image) (e .plan) (e .count)
   unfolding carried
   carried-out v h = carries 0 (e .count) (stepsOf (e .plan)) v (λ m p q. h m (omega arith)) (λ m p q. lands-not e m (omega arith))
 

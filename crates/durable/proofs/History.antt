@@ -12,8 +12,8 @@ use Rattle.image.specs.Soundness.{Sound}
 use Rattle.steps.specs.Steps.{chunkOf}
 use Rattle.durable.specs.Events.{Volume, Event, Outcome, refused, finished, cut, after, run, holds, newPieces, outcome, takesEffect, entry, entries, entered, ledger}
 use Rattle.durable.specs.Demand.{Untouched, KeptFromSound}
-use Rattle.durable.proofs.Effect.{Intact, sound-intact, intact-sound, cut-tried, finished-tried, after-tried, after-refused, was-tried, was-refused, chunk-in, landed-whole, event-intact, event-holds}
-use Rattle.durable.proofs.Carrying.{carried-out, as-carry}
+use Rattle.durable.proofs.Effect.{Intact, sound-intact, intact-sound, cut-tried, finished-tried, after-refused, was-tried, was-refused, chunk-in, landed-whole, event-intact, event-holds}
+use Rattle.durable.proofs.Carrying.{as-carry}
 
 -- an event that takes effect was not refused
 effect-tried : (o : Outcome) → takesEffect o ≡ true → o ≢ refused
@@ -132,8 +132,6 @@ kept-from-sound A g start l es z h = record {
   unchanged = λ past later e p o. after-refused (run start past) e (was-refused (run start past) e o);
   landedWhole = λ past later e p o.
       landed-whole g (run start past) e (then past) (was-tried (run start past) e finished o finished-tried) o;
-  carriedOut = λ past later e p t f.
-      ap (λ (w : Volume A). w .image) (after-tried (run start past) e t) ∙ carried-out e (run start past) f;
   asCarry = λ past later e p f. as-carry e (run start past) f;
 }
   where

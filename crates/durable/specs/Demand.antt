@@ -8,8 +8,8 @@ use Rattle.layout.specs.declared.Formatted.the-variants.{Done}
 use Rattle.layout.specs.Format.{formatAnswer, formatImage}
 use Rattle.image.specs.Soundness.{NamesUnit, Sound}
 use Rattle.steps.specs.Steps.{chunkOf}
-use Rattle.carry.specs.Carry.{carried, carryImage}
-use Rattle.durable.specs.Events.{Volume, Event, lands, holds, tried, after, run, newPieces, refused, finished, cut, outcome, takesEffect, entries, ledger}
+use Rattle.carry.specs.Carry.{carryImage}
+use Rattle.durable.specs.Events.{Volume, Event, lands, holds, after, run, newPieces, refused, finished, cut, outcome, takesEffect, entries, ledger}
 
 module _ {A : Type 0} where
   -- no event of the list es, begun on the volume v, took effect on chunk i
@@ -46,12 +46,7 @@ module _ {A : Type 0} where
     pub landedWhole :
         (past later : List (Event A)) (e : Event A) → es ≡ past ++ e ∷ later → outcome (run start past .image) e ≡ finished
         → (i : ℕ) → i < e .count → lands e i ≡ true
-    -- "where all n have landed, that is byte for byte what carrying out n steps leaves": the words of those n stored, and no other byte changed
-    pub carriedOut :
-        (past later : List (Event A)) (e : Event A) → es ≡ past ++ e ∷ later → tried (run start past .image) e ≡ true
-        → ((i : ℕ) → i < e .count → lands e i ≡ true)
-        → after (run start past) e .image ≡ carried (run start past .image) (e .plan) (e .count)
-    -- The same by what the call `carry` leaves, refused or not.
+    -- "where all n have landed, that is byte for byte what carrying out n steps leaves": what the call `carry` promises to leave, refused or not
     pub asCarry :
         (past later : List (Event A)) (e : Event A) → es ≡ past ++ e ∷ later → ((i : ℕ) → i < e .count → lands e i ≡ true)
         → after (run start past) e .image ≡ carryImage (run start past .image) (e .request) (e .plan) (e .count)
