@@ -16,11 +16,11 @@ use Rattle.steps.specs.Steps.{stepsOf, wholeSteps, chunkOf}
 use Rattle.checker.specs.declared.Checked.the-variants.{Accepted}
 use Rattle.checker.specs.Rules.{checked}
 use Rattle.carry.specs.Carry.{carryImage}
-use Rattle.durable.specs.Events.{Volume, Event, complete, tried, settle, after}
+use Rattle.durable.specs.Events.{Volume, Event, complete, goesAhead, settle, after}
 use Rattle.durable.specs.LoadsBack.{newLink, newUnits, LoadsBack}
 use Rattle.durable.proofs.Requests.{Settled}
 use Rattle.durable.proofs.Carrying.{as-carry}
-use Rattle.durable.proofs.Effect.{Intact, sound-intact, intact-sound, after-tried, whole-tried, whole-finished, here, settled, chunk-in, landed-whole, event-intact}
+use Rattle.durable.proofs.Effect.{Intact, sound-intact, intact-sound, after-ahead, whole-ahead, whole-finished, here, settled, chunk-in, landed-whole, event-intact}
 
 module _ (g : Shape) (s : List ℕ) (r : Request) (plan : List ℕ) (z : Sound g s) (a : checked s r plan ≡ Accepted) where
   -- the volume and the event: what the units hold is of no account here
@@ -36,8 +36,8 @@ module _ (g : Shape) (s : List ℕ) (r : Request) (plan : List ℕ) (z : Sound g
   whole : complete e ≡ true
   whole = eq-eqb (wholeSteps plan) (wholeSteps plan) refl
 
-  takes : tried s e ≡ true
-  takes = whole-tried v e a whole
+  takes : goesAhead s e ≡ true
+  takes = whole-ahead v e a whole
 
   leaves : Settled v e (here g v e d) r
   leaves = settled g v e d takes
@@ -50,7 +50,7 @@ module _ (g : Shape) (s : List ℕ) (r : Request) (plan : List ℕ) (z : Sound g
   same-after = as-carry e v (landed-whole g v e d takes (whole-finished v e a whole))
 
   same : settle e 0 (stepsOf plan) v .image ≡ t
-  same = ap (λ (w : Volume ℕ). w .image) (sym (after-tried v e takes)) ∙ same-after
+  same = ap (λ (w : Volume ℕ). w .image) (sym (after-ahead v e takes)) ∙ same-after
 
   sound-now : Sound g t
   sound-now = subst (Sound g) same-after (intact-sound g (after v e .image) (event-intact g v e d))

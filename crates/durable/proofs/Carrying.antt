@@ -10,7 +10,7 @@ use Rattle.steps.specs.Steps.{stepsOf}
 use Rattle.checker.specs.declared.Checked.{Checked}
 use Rattle.checker.specs.declared.Checked.the-variants.{Accepted, Refused}
 use Rattle.carry.specs.Carry.{carryAll, carried, carryAnswer, leftBy, carryImage}
-use Rattle.durable.specs.Events.{Volume, Event, store, accepted, tried, lands, settle, after}
+use Rattle.durable.specs.Events.{Volume, Event, store, accepted, goesAhead, lands, settle, after}
 use Rattle.durable.proofs.Settle.{next, settle-nil, settle-cons}
 use Rattle.durable.proofs.Fences.{lands-not}
 
@@ -41,7 +41,7 @@ module _ {A : Type 0} (e : Event A) where
   -- and so what the call `carry` leaves, refused or not
   pub as-carry : (v : Volume A) → ((i : ℕ) → i < e .count → lands e i ≡ true)
       → after v e .image ≡ carryImage (v .image) (e .request) (e .plan) (e .count)
-  unfolding after tried
+  unfolding after goesAhead
   as-carry v h = go (carryAnswer (v .image) (e .request) (e .plan) (e .count))
     where
       go : (a : Checked) → cond (accepted a) (settle e 0 (stepsOf (e .plan)) v) v .image ≡ leftBy a (v .image) (e .plan) (e .count)

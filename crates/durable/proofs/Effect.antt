@@ -25,7 +25,7 @@ use Rattle.checker.proofs.Places.{at-below, step-there}
 use Rattle.checker.proofs.Wording.{rule1-told}
 use Rattle.carry.specs.Carry.{carryAnswer}
 use Rattle.carry.proofs.AnswerLaws.{answer-accepted, accepted-answer}
-use Rattle.durable.specs.Events.{Volume, Event, Outcome, refused, finished, cut, accepted, tried, lands, complete, settle, linkLands, after, holds, outcome, entry, entered}
+use Rattle.durable.specs.Events.{Volume, Event, Outcome, refused, finished, cut, accepted, goesAhead, lands, complete, settle, linkLands, after, holds, outcome, entry, entered}
 use Rattle.checker.proofs.StepLaws.{InRange, each-in-range}
 use Rattle.durable.proofs.Settle.{settle-trailer}
 use Rattle.durable.proofs.Requests.{Settled, settled-any}
@@ -64,22 +64,22 @@ all-steps g plan h i b =
 
 -- ---- what an outcome says
 
-pub cut-tried : (b : Bool) → cut b ≢ refused
-cut-tried b h = let q : _≡_ {A = ℕ} 0 1 = cc in omega arith
+pub cut-ahead : (b : Bool) → cut b ≢ refused
+cut-ahead b h = let q : _≡_ {A = ℕ} 0 1 = cc in omega arith
 
-pub finished-tried : finished ≢ refused
-finished-tried h = let q : _≡_ {A = ℕ} 0 1 = cc in omega arith
+pub finished-ahead : finished ≢ refused
+finished-ahead h = let q : _≡_ {A = ℕ} 0 1 = cc in omega arith
 
 cut-open : (b : Bool) → cut b ≢ finished
 cut-open b h = let q : _≡_ {A = ℕ} 0 1 = cc in omega arith
 
-of-tried : (t c b : Bool) → cond t (cond c finished (cut b)) refused ≢ refused → t ≡ true
-of-tried true c b n = refl
-of-tried false c b n = absurd (n refl)
+of-ahead : (t c b : Bool) → cond t (cond c finished (cut b)) refused ≢ refused → t ≡ true
+of-ahead true c b n = refl
+of-ahead false c b n = absurd (n refl)
 
 of-refused : (t c b : Bool) → cond t (cond c finished (cut b)) refused ≡ refused → t ≡ false
-of-refused true true b h = absurd (finished-tried h)
-of-refused true false b h = absurd (cut-tried b h)
+of-refused true true b h = absurd (finished-ahead h)
+of-refused true false b h = absurd (cut-ahead b h)
 of-refused false c b h = refl
 
 of-finished : (c b : Bool) → cond c finished (cut b) ≡ finished → c ≡ true
@@ -87,44 +87,44 @@ of-finished true b h = refl
 of-finished false b h = absurd (cut-open b h)
 
 module _ {A : Type 0} (v : Volume A) (e : Event A) where
-  pub after-tried : tried (v .image) e ≡ true → after v e ≡ settle e 0 (stepsOf (e .plan)) v
+  pub after-ahead : goesAhead (v .image) e ≡ true → after v e ≡ settle e 0 (stepsOf (e .plan)) v
   unfolding after
-  after-tried h = cond-true (tried (v .image) e) (settle e 0 (stepsOf (e .plan)) v) v h
+  after-ahead h = cond-true (goesAhead (v .image) e) (settle e 0 (stepsOf (e .plan)) v) v h
 
-  pub after-refused : tried (v .image) e ≡ false → after v e ≡ v
+  pub after-refused : goesAhead (v .image) e ≡ false → after v e ≡ v
   unfolding after
-  after-refused h = cond-false (tried (v .image) e) (settle e 0 (stepsOf (e .plan)) v) v h
+  after-refused h = cond-false (goesAhead (v .image) e) (settle e 0 (stepsOf (e .plan)) v) v h
 
-  -- the outcome of an event that is tried
+  -- the outcome of an event that goes ahead
   abbrev pub ended : Outcome
   ended = cond (complete e) finished (cut (linkLands e 0 (stepsOf (e .plan))))
 
-  outcome-tried : tried (v .image) e ≡ true → outcome (v .image) e ≡ ended
+  outcome-ahead : goesAhead (v .image) e ≡ true → outcome (v .image) e ≡ ended
   unfolding outcome
-  outcome-tried h = cond-true (tried (v .image) e) ended refused h
+  outcome-ahead h = cond-true (goesAhead (v .image) e) ended refused h
 
-  outcome-refused : tried (v .image) e ≡ false → outcome (v .image) e ≡ refused
+  outcome-refused : goesAhead (v .image) e ≡ false → outcome (v .image) e ≡ refused
   unfolding outcome
-  outcome-refused h = cond-false (tried (v .image) e) ended refused h
+  outcome-refused h = cond-false (goesAhead (v .image) e) ended refused h
 
   -- an accepted plan with n all its steps is finished
   module _ (a : checked (v .image) (e .request) (e .plan) ≡ Accepted) (c : complete e ≡ true) where
-    pub whole-tried : tried (v .image) e ≡ true
-    unfolding tried
-    whole-tried =
+    pub whole-ahead : goesAhead (v .image) e ≡ true
+    unfolding goesAhead
+    whole-ahead =
         let n = eqb-true (e .count) (wholeSteps (e .plan)) c in
         ap accepted (accepted-answer (v .image) (e .request) (e .plan) (e .count) a (omega arith))
 
     pub whole-finished : outcome (v .image) e ≡ finished
-    whole-finished = outcome-tried whole-tried ∙ cond-true (complete e) finished (cut (linkLands e 0 (stepsOf (e .plan)))) c
+    whole-finished = outcome-ahead whole-ahead ∙ cond-true (complete e) finished (cut (linkLands e 0 (stepsOf (e .plan)))) c
 
-  pub was-tried : (o : Outcome) → outcome (v .image) e ≡ o → o ≢ refused → tried (v .image) e ≡ true
+  pub was-ahead : (o : Outcome) → outcome (v .image) e ≡ o → o ≢ refused → goesAhead (v .image) e ≡ true
   unfolding outcome
-  was-tried o h n = of-tried (tried (v .image) e) (complete e) (linkLands e 0 (stepsOf (e .plan))) (λ q. n (sym h ∙ q))
+  was-ahead o h n = of-ahead (goesAhead (v .image) e) (complete e) (linkLands e 0 (stepsOf (e .plan))) (λ q. n (sym h ∙ q))
 
-  pub was-refused : outcome (v .image) e ≡ refused → tried (v .image) e ≡ false
+  pub was-refused : outcome (v .image) e ≡ refused → goesAhead (v .image) e ≡ false
   unfolding outcome
-  was-refused h = of-refused (tried (v .image) e) (complete e) (linkLands e 0 (stepsOf (e .plan))) h
+  was-refused h = of-refused (goesAhead (v .image) e) (complete e) (linkLands e 0 (stepsOf (e .plan))) h
 
 -- ---- one event
 
@@ -141,11 +141,11 @@ module _ {A : Type 0} (g : Shape) (v : Volume A) (e : Event A) (d : Intact g (v 
   pub here : Orderly (shapeOf (v .image)) (v .image)
   here = subst (λ (h : Shape). Orderly h s) (sym (d .order .on .shape)) (d .order)
 
-  -- ---- a plan that is tried
+  -- ---- a plan that goes ahead
 
-  module _ (h : tried s e ≡ true) where
+  module _ (h : goesAhead s e ≡ true) where
     accepts : (checked s (e .request) (e .plan) ≡ Accepted) × (e .count ≤ wholeSteps (e .plan))
-    unfolding tried
+    unfolding goesAhead
     accepts = answer-accepted s (e .request) (e .plan) (e .count) (is-accepted (carryAnswer s (e .request) (e .plan) (e .count)) h)
 
     plan : Passed s (e .request) (e .plan)
@@ -157,8 +157,8 @@ module _ {A : Type 0} (g : Shape) (v : Volume A) (e : Event A) (d : Intact g (v 
     pub settled : Settled v e here (e .request)
     settled = settled-any v e here (e .request) plan
 
-    tried-intact : Intact g (t .image)
-    tried-intact = record {
+    ahead-intact : Intact g (t .image)
+    ahead-intact = record {
       order = subst (λ (k : Shape). Orderly k (t .image)) (d .order .on .shape) (settled .orderly);
       trailer =
           settle-trailer e g 0 xs v (d .order .on)
@@ -169,11 +169,11 @@ module _ {A : Type 0} (g : Shape) (v : Volume A) (e : Event A) (d : Intact g (v 
     -- "finished, and all have landed"
     pub landed-whole : outcome s e ≡ finished → (i : ℕ) → i < e .count → lands e i ≡ true
     landed-whole f i b =
-        let c : complete e ≡ true = of-finished (complete e) (linkLands e 0 xs) (sym (outcome-tried v e h) ∙ f) in
+        let c : complete e ≡ true = of-finished (complete e) (linkLands e 0 xs) (sym (outcome-ahead v e h) ∙ f) in
         settled .whole c i (all-steps (shapeOf s) (e .plan) (plan .rules .one) i (omega (arith, accepts .1)))
 
-    tried-holds : (i : ℕ) → i < g .c → holds t i ≡ entered (holds v) (entry e (ended v e)) i
-    tried-holds i b = go (either (complete e)) (either (linkLands e 0 xs))
+    ahead-holds : (i : ℕ) → i < g .c → holds t i ≡ entered (holds v) (entry e (ended v e)) i
+    ahead-holds i b = go (either (complete e)) (either (linkLands e 0 xs))
       where
         k : i < shapeOf s .c
         k = subst (λ (q : Shape). i < q .c) (sym (d .order .on .shape)) b
@@ -190,18 +190,18 @@ module _ {A : Type 0} (g : Shape) (v : Volume A) (e : Event A) (d : Intact g (v 
   -- ---- any plan
 
   pub event-intact : Intact g (after v e .image)
-  event-intact = go (either (tried s e))
+  event-intact = go (either (goesAhead s e))
     where
-      go : (tried s e ≡ true) ⊎ (tried s e ≡ false) → Intact g (after v e .image)
-      go (inl h) = subst (λ (w : Volume A). Intact g (w .image)) (sym (after-tried v e h)) (tried-intact h)
+      go : (goesAhead s e ≡ true) ⊎ (goesAhead s e ≡ false) → Intact g (after v e .image)
+      go (inl h) = subst (λ (w : Volume A). Intact g (w .image)) (sym (after-ahead v e h)) (ahead-intact h)
       go (inr h) = subst (λ (w : Volume A). Intact g (w .image)) (sym (after-refused v e h)) d
 
   pub event-holds : (i : ℕ) → i < g .c → holds (after v e) i ≡ entered (holds v) (entry e (outcome (v .image) e)) i
-  event-holds i b = go (either (tried s e))
+  event-holds i b = go (either (goesAhead s e))
     where
       by : {o : Outcome} → outcome s e ≡ o → entered (holds v) (entry e o) i ≡ entered (holds v) (entry e (outcome s e)) i
       by q = ap (λ (o : Outcome). entered (holds v) (entry e o) i) (sym q)
 
-      go : (tried s e ≡ true) ⊎ (tried s e ≡ false) → holds (after v e) i ≡ entered (holds v) (entry e (outcome s e)) i
-      go (inl h) = ap (λ (w : Volume A). holds w i) (after-tried v e h) ∙ tried-holds h i b ∙ by (outcome-tried v e h)
+      go : (goesAhead s e ≡ true) ⊎ (goesAhead s e ≡ false) → holds (after v e) i ≡ entered (holds v) (entry e (outcome s e)) i
+      go (inl h) = ap (λ (w : Volume A). holds w i) (after-ahead v e h) ∙ ahead-holds h i b ∙ by (outcome-ahead v e h)
       go (inr h) = ap (λ (w : Volume A). holds w i) (after-refused v e h) ∙ by (outcome-refused v e h)

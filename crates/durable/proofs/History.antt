@@ -12,12 +12,12 @@ use Rattle.image.specs.Soundness.{Sound}
 use Rattle.steps.specs.Steps.{chunkOf}
 use Rattle.durable.specs.Events.{Volume, Event, Outcome, refused, finished, cut, after, run, holds, newPieces, outcome, takesEffect, entry, entries, entered, ledger}
 use Rattle.durable.specs.Demand.{Untouched, KeptFromSound}
-use Rattle.durable.proofs.Effect.{Intact, sound-intact, intact-sound, cut-tried, finished-tried, after-refused, was-tried, was-refused, chunk-in, landed-whole, event-intact, event-holds}
+use Rattle.durable.proofs.Effect.{Intact, sound-intact, intact-sound, cut-ahead, finished-ahead, after-refused, was-ahead, was-refused, chunk-in, landed-whole, event-intact, event-holds}
 use Rattle.durable.proofs.Carrying.{as-carry}
 
 -- an event that takes effect was not refused
-effect-tried : (o : Outcome) → takesEffect o ≡ true → o ≢ refused
-effect-tried o h q = contradict (sym (ap takesEffect q) ∙ h) refl
+effect-ahead : (o : Outcome) → takesEffect o ≡ true → o ≢ refused
+effect-ahead o h q = contradict (sym (ap takesEffect q) ∙ h) refl
 
 module _ {A : Type 0} where
   -- ---- the ledger's entries
@@ -109,7 +109,7 @@ module _ {A : Type 0} where
         (v : Volume A) (e : Event A) → Intact g (v .image) → (o : Outcome) → outcome (v .image) e ≡ o → o ≢ refused
         → holds (after v e) (chunkOf (e .request)) ≡ entered (holds v) (entry e o) (chunkOf (e .request))
     own-holds v e d o h n =
-        event-holds g v e d (chunkOf (e .request)) (chunk-in g v e d (was-tried v e o h n))
+        event-holds g v e d (chunkOf (e .request)) (chunk-in g v e d (was-ahead v e o h n))
         ∙ ap (λ (x : Outcome). entered (holds v) (entry e x) (chunkOf (e .request))) h
 
 -- ---- the statement, from any sound volume
@@ -120,18 +120,18 @@ kept-from-sound A g start l es z h = record {
   owners = λ u i j a b n m. end .units u i j a b n m .0;
   booked = run-booked g l start es d h;
   inFlight = λ past later e b p o.
-      own-holds g (run start past) e (then past) (cut b) o (cut-tried b) ∙ entered-cut (holds (run start past)) e b;
+      own-holds g (run start past) e (then past) (cut b) o (cut-ahead b) ∙ entered-cut (holds (run start past)) e b;
   stays = λ past later e p o u.
       let v = run start past in
-      let n = effect-tried (outcome (v .image) e) o in
+      let n = effect-ahead (outcome (v .image) e) o in
       ap (λ (w : Volume A). holds w (chunkOf (e .request))) (ap (run start) p ∙ run-append start past (e ∷ later) ∙ run-cons v e later)
-      ∙ run-untouched g (chunkOf (e .request)) (chunk-in g v e (then past) (was-tried v e (outcome (v .image) e) refl n)) (after v e) later
+      ∙ run-untouched g (chunkOf (e .request)) (chunk-in g v e (then past) (was-ahead v e (outcome (v .image) e) refl n)) (after v e) later
       (event-intact g v e (then past)) u
       ∙ own-holds g v e (then past) (outcome (v .image) e) refl n
       ∙ entered-own (holds v) e (outcome (v .image) e) o;
   unchanged = λ past later e p o. after-refused (run start past) e (was-refused (run start past) e o);
   landedWhole = λ past later e p o.
-      landed-whole g (run start past) e (then past) (was-tried (run start past) e finished o finished-tried) o;
+      landed-whole g (run start past) e (then past) (was-ahead (run start past) e finished o finished-ahead) o;
   asCarry = λ past later e p f. as-carry e (run start past) f;
 }
   where

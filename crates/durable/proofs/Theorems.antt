@@ -34,7 +34,7 @@ use Rattle.durable.specs.Demand.{Demand}
 use Rattle.durable.specs.Own.{ownEvent, OwnDelivers}
 use Rattle.durable.specs.LoadsBack.{LoadsBack, newUnits, PlansLoadBack, ownLink, ownUnits, OwnLoadsBack, WrittenLoadsBack}
 use Rattle.durable.proofs.Careful.{holds-is}
-use Rattle.durable.proofs.Effect.{sound-intact, whole-finished, finished-tried}
+use Rattle.durable.proofs.Effect.{sound-intact, whole-finished, finished-ahead}
 use Rattle.durable.proofs.Back.{loads-back}
 use Rattle.durable.proofs.History.{kept-from-sound, own-holds, entered-own}
 
@@ -68,7 +68,7 @@ own-delivers A g v r payload z k h =
     let e = ownEvent v r payload in
     let plan = encodeAll (planOf s r) in
     let f = whole-finished v e (own-accepted g s r z k h) (eq-eqb (wholeSteps plan) (wholeSteps plan) refl) in
-    (f, own-holds g v e (sound-intact g s z) finished f finished-tried ∙ entered-own (holds v) e finished refl)
+    (f, own-holds g v e (sound-intact g s z) finished f finished-ahead ∙ entered-own (holds v) e finished refl)
 
 -- ---- "what is written loads back as what was meant"
 

@@ -80,12 +80,12 @@ accepted (Refused x) = false
 
 module _ {A : Type 0} where
   -- not "Where checking, or carrying out n steps, is refused": carrying out checks first
-  unfoldable pub tried : List ℕ → Event A → Bool
-  tried s e = accepted (carryAnswer s (e .request) (e .plan) (e .count))
+  unfoldable pub goesAhead : List ℕ → Event A → Bool
+  goesAhead s e = accepted (carryAnswer s (e .request) (e .plan) (e .count))
 
   -- Where it is refused, "both stay"; otherwise the plan's steps leave what they leave.
   unfoldable pub after : Volume A → Event A → Volume A
-  after v e = cond (tried (v .image) e) (settle e 0 (stepsOf (e .plan)) v) v
+  after v e = cond (goesAhead (v .image) e) (settle e 0 (stepsOf (e .plan)) v) v
 
   -- "Each event gets image and units as the last one left them": the volume after a list of events
   unfoldable pub run : Volume A → List (Event A) → Volume A
@@ -118,7 +118,7 @@ module _ {A : Type 0} where
 
   -- "Otherwise a plan with n all its steps is finished ..; with fewer it is cut at point n": the plan is "checked against the image found"
   unfoldable pub outcome : List ℕ → Event A → Outcome
-  outcome s e = cond (tried s e) (cond (complete e) finished (cut (linkLands e 0 (stepsOf (e .plan))))) refused
+  outcome s e = cond (goesAhead s e) (cond (complete e) finished (cut (linkLands e 0 (stepsOf (e .plan))))) refused
 
 -- ---- the ledger
 
