@@ -14,10 +14,10 @@ use Rattle.steps.specs.Steps.{decodeAt, decodeFields, encode, encodeAll, gather
 use Rattle.checker.specs.Rules.{afterLink, beforeLink, brokenRule, checked, collect, endsIn, every, judged, linkIn, linkedIn, linksAre, mapFits, mapIn, onceEach, pieceIn, planMap, rule1, rule2, rule3, rule4, rule5, unitIn, unitOf, wordIn}
 use Rattle.planner.specs.Planner.{dataSteps, mapSteps, planIn, planOf, valueFor, writeSteps}
 use Rattle.carry.specs.Carry.{carried, carryAll, carryIn}
-use Rattle.durable.specs.Events.{after, fenced, holds, lands, settle, tried}
+use Rattle.durable.specs.Events.{after, fenced, holds, lands, settle, goesAhead}
 use Rattle.cases.specs.Table.{done, table, AllRight}
 
 pub cases-right : AllRight table
-unfolding done all any disjoint distinct from keep lowestFrom member rising digits number bitSet bits inSet formatImage formats agreeing fitting fresh known shapeBytes shapeOf sizeBytes trailerOf withinLimits wordsOf trailerOutcome freeMap freeMaps freeUnit freeUnits leading unitsOf badLink badMap chunkVerdict clash contested doubleClaim firstClaim verdict wellFormed goodRange pieceOf pieces splitIn decodeAt decodeFields encode encodeAll gather stepsOf afterLink beforeLink brokenRule checked collect endsIn every judged linkIn linkedIn linksAre mapFits mapIn onceEach pieceIn planMap rule1 rule2 rule3 rule4 rule5 unitIn unitOf wordIn dataSteps mapSteps planIn valueFor planOf writeSteps carried carryAll carryIn after fenced holds lands settle tried
+unfolding done all any disjoint distinct from keep lowestFrom member rising digits number bitSet bits inSet formatImage formats agreeing fitting fresh known shapeBytes shapeOf sizeBytes trailerOf withinLimits wordsOf trailerOutcome freeMap freeMaps freeUnit freeUnits leading unitsOf badLink badMap chunkVerdict clash contested doubleClaim firstClaim verdict wellFormed goodRange pieceOf pieces splitIn decodeAt decodeFields encode encodeAll gather stepsOf afterLink beforeLink brokenRule checked collect endsIn every judged linkIn linkedIn linksAre mapFits mapIn onceEach pieceIn planMap rule1 rule2 rule3 rule4 rule5 unitIn unitOf wordIn dataSteps mapSteps planIn valueFor planOf writeSteps carried carryAll carryIn after fenced holds lands settle goesAhead
 cases-right =
     ((refl, refl), ((refl, refl), ((refl, refl), ((refl, refl), (refl, ((refl, refl), (λ landed. (refl, refl), ((refl, refl), ((refl, refl), ((refl, refl), (refl, (refl, (refl, (refl, ((refl, refl, refl, refl), ((refl, refl, refl, refl), ((refl, refl), ((refl, refl, refl, refl), ((refl, refl), (refl, (refl, (refl, (refl, (refl, (refl, ((refl, refl), ((refl, refl, refl, refl), tt)))))))))))))))))))))))))))
