@@ -4,7 +4,7 @@
 //!
 //! * [`model`] is the implementation.
 //! * [`ffi`] is the proved library's C interface.
-//! * [`rng`] and [`inputs`] make reproducible test inputs.
+//! * [`rng`] and [`inputs`] make reproducible test inputs; [`settings`] are a run's.
 //!
 //! "01" in the comments is the paper with the exact rules, "Decision n" an
 //! entry of the list of how its open places are read.
@@ -13,3 +13,4 @@ pub mod ffi;
 pub mod inputs;
 pub mod model;
 pub mod rng;
+pub mod settings;

@@ -22,6 +22,7 @@ use common::rows::{self, Verdict};
 use common::{generate, sweeps};
 use sumbilak_reference::inputs::{self, Base};
 use sumbilak_reference::rng::{mix, Rng};
+use sumbilak_reference::settings::number;
 
 /// Generated inputs for each entry point.
 const CASES: u64 = 50_000;
@@ -30,15 +31,6 @@ const SEED: u64 = 0x524D_4150_0001;
 const POOL: usize = 500;
 /// Mismatches of one entry point that are shown in full.
 const SHOWN: u64 = 3;
-
-fn number(variable: &str) -> Option<u64> {
-    let text = env::var(variable).ok()?;
-    let parsed = match text.strip_prefix("0x") {
-        Some(hex) => u64::from_str_radix(hex, 16),
-        None => text.parse(),
-    };
-    Some(parsed.unwrap_or_else(|_| panic!("{variable} is no number: {text}")))
-}
 
 /// Runs one case both ways. What differs is counted in `failures`, and the
 /// first few of them are shown whole.

@@ -50,18 +50,10 @@ use simulate::{Simulator, Violation};
 use sumbilak_reference::ffi::{self, LOAD_WORDS};
 use sumbilak_reference::inputs::{self, encode, put_entry, put_word, Fields, Shape, FENCE, X32};
 use sumbilak_reference::rng::{mix, Rng};
+use sumbilak_reference::settings::number;
 use volume::Volume;
 
 const SEED: u64 = 0x524D_4150_0002;
-
-fn number(variable: &str) -> Option<u64> {
-    let text = env::var(variable).ok()?;
-    let parsed = match text.strip_prefix("0x") {
-        Some(hex) => u64::from_str_radix(hex, 16),
-        None => text.parse(),
-    };
-    Some(parsed.unwrap_or_else(|_| panic!("{variable} is no number: {text}")))
-}
 
 fn seed() -> u64 {
     number("SUMBILAK_SEED").unwrap_or(SEED)
