@@ -1,7 +1,6 @@
 // The planner's own plans.
 use crate::Planned;
 use crate::taking::lowest;
-use bitset::count;
 use bitset::next_member;
 use checker::check::good_size;
 use checker::check::is_mapped;
@@ -134,7 +133,8 @@ fn write_on(
 {
     let k = ((size + (UNIT_BYTES - 1)) / UNIT_BYTES) as usize;
     let steps = k + words + LINK_STEPS;
-    let free = count(units);
+    let taken = lowest(units, k);
+    let free = taken.count;
     if free < k {
         return Planned::Refused(Refusal::NoRoom(free as u32));
     }
@@ -142,8 +142,8 @@ fn write_on(
         return Planned::Refused(Refusal::Small((STEP_BYTES * steps) as u32));
     }
     let map = next_member(maps, 0);
-    let taken = lowest(units, k);
-    put_write(out, &taken, k, map as u32, words, chunk);
+    let chosen = taken.units;
+    put_write(out, &chosen, k, map as u32, words, chunk);
     Planned::Steps(steps as u32)
 }
 

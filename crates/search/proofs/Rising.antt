@@ -62,6 +62,21 @@ module _ (f : ℕ → Bool) (n : ℕ) where
       go zero i e h = absurd (let z : 0 < 0 = rw (rising-end i (omega arith)) at h in omega arith)
       go (suc c) i e h = at c i e (f i) refl h (go c (i + 1) (omega arith))
 
+  -- there is one just where the search for the first, from n where there is none, ends below n
+  pub rising-some : (i : ℕ) → firstOr n (rising f n i) < n → 0 < length (rising f n i)
+  rising-some i = at (rising f n i)
+    where
+      at : (xs : List ℕ) → firstOr n xs < n → 0 < length xs
+      at [] h = absurd (omega arith)
+      at (x ∷ xs) h = omega arith
+
+  pub rising-none : (i : ℕ) → n ≤ firstOr n (rising f n i) → length (rising f n i) ≡ 0
+  rising-none i h = at (length (rising f n i)) refl
+    where
+      at : (k : ℕ) → length (rising f n i) ≡ k → length (rising f n i) ≡ 0
+      at zero e = e
+      at (suc k) e = absurd (let q = rising-first i n (omega arith) in omega (arith, q .below-n))
+
 -- one turn of a loop that stores the first k - j of xs from index j
 pub sets-take-step : (j k a : ℕ) (xs ys : List ℕ) → j < k → xs ≡ a ∷ ys → (l : List ℕ)
     → sets (set l j a) (j + 1) (take (k - (j + 1)) ys) ≡ sets l j (take (k - j) xs)
