@@ -1,4 +1,4 @@
-/* A maker's firmware in small: it formats a volume, writes a chunk, checks a plan that came from elsewhere, and survives a power cut.
+/* A maker's firmware in small: it formats a volume, writes a chunk, refuses a plan that came from elsewhere, and survives a power cut.
  *
  *   rt staticlib sumbilak
  *   gcc -Wall -Wextra -Werror -Iinclude examples/firmware.c target/staticlib/libsumbilak.a -o firmware
@@ -10,8 +10,19 @@
 
 enum { P = 4, C = 4, M = 5, N = 20, IMAGE = SUMBILAK_IMAGE_BYTES(P, C, M), PLAN = SUMBILAK_MAX_WRITE_STEPS * SUMBILAK_STEP_BYTES };
 
-static uint8_t disk[N][SUMBILAK_UNIT_BYTES]; /* the backing units */
-static uint8_t image[IMAGE];                 /* the metadata, as it lies on the disk */
+static uint8_t disk_units[N][SUMBILAK_UNIT_BYTES]; /* what lies on the disk: the backing units, */
+static uint8_t disk_image[IMAGE];                  /* and the metadata */
+static uint8_t image[IMAGE];                       /* the metadata in memory */
+
+/* The disk of this example is memory: a real one writes the changed word, and at a FENCE is flushed. */
+static void write_through(void)
+{
+    memcpy(disk_image, image, IMAGE);
+}
+
+static void flush(void)
+{
+}
 
 static uint32_t field(const uint8_t *plan, size_t step, size_t i)
 {
@@ -19,21 +30,41 @@ static uint32_t field(const uint8_t *plan, size_t step, size_t i)
     return b[0] | (uint32_t)b[1] << 8 | (uint32_t)b[2] << 16 | (uint32_t)b[3] << 24;
 }
 
-/* Performs the first n steps of a plan: DATA here, MAP and LINK words by the library. A FENCE is where a real disk is flushed. */
+static void write_unit(uint32_t unit, const char *text, size_t from)
+{
+    size_t left = strlen(text) - from;
+    memset(disk_units[unit], 0, SUMBILAK_UNIT_BYTES);
+    memcpy(disk_units[unit], text + from, left < SUMBILAK_UNIT_BYTES ? left : SUMBILAK_UNIT_BYTES);
+}
+
+/* Performs a plan step by step, in its order: nothing is touched before the whole plan has passed the check. The power goes after n steps. */
 static sumbilak_answer perform(uint64_t chunk, const char *text, const uint8_t *plan, size_t steps, size_t n)
 {
-    uint64_t size = strlen(text);
-    sumbilak_answer a = sumbilak_check_write(image, IMAGE, chunk, size, plan, steps * SUMBILAK_STEP_BYTES);
-    if (a.number != 0)
-        return a; /* nothing was touched */
-    for (size_t i = 0; i < n; i++)
-        if (field(plan, i, 0) == 1) {
-            size_t from = (size_t)field(plan, i, 2) * SUMBILAK_UNIT_BYTES;
-            uint8_t *unit = disk[field(plan, i, 1)];
-            memset(unit, 0, SUMBILAK_UNIT_BYTES);
-            memcpy(unit, text + from, size - from < SUMBILAK_UNIT_BYTES ? size - from : SUMBILAK_UNIT_BYTES);
+    size_t bytes = steps * SUMBILAK_STEP_BYTES;
+    sumbilak_answer a = sumbilak_check_write(image, IMAGE, chunk, strlen(text), plan, bytes);
+    for (size_t i = 0; a.number == 0 && i < steps && i < n; i++)
+        switch (field(plan, i, 0)) {
+        case SUMBILAK_DATA:
+            write_unit(field(plan, i, 1), text, (size_t)field(plan, i, 2) * SUMBILAK_UNIT_BYTES);
+            break;
+        case SUMBILAK_MAP:
+        case SUMBILAK_LINK:
+            a = sumbilak_carry_write(image, IMAGE, chunk, strlen(text), plan, bytes, i + 1);
+            write_through();
+            break;
+        case SUMBILAK_FENCE:
+            flush();
+            break;
         }
-    return sumbilak_carry_write(image, IMAGE, chunk, size, plan, steps * SUMBILAK_STEP_BYTES, n);
+    return a;
+}
+
+/* Starts up: the metadata is read as the disk has it, and judged. There is nothing to repair after a cut. */
+static uint64_t start_up(void)
+{
+    uint64_t loaded[SUMBILAK_LOAD_WORDS];
+    memcpy(image, disk_image, IMAGE);
+    return sumbilak_load(image, IMAGE, loaded, SUMBILAK_LOAD_WORDS).number;
 }
 
 static void show(const char *when, uint64_t chunk)
@@ -44,7 +75,8 @@ static void show(const char *when, uint64_t chunk)
     else if (held.extent == 0)
         printf("%s: chunk %llu is unmapped\n", when, (unsigned long long)chunk);
     else /* the low byte of the first held word: N is below 256 here */
-        printf("%s: chunk %llu is on unit %u and reads \"%s\"\n", when, (unsigned long long)chunk, image[held.value], (const char *)disk[image[held.value]]);
+        printf("%s: chunk %llu is on unit %u and reads \"%s\"\n", when, (unsigned long long)chunk, image[held.value],
+               (const char *)disk_units[image[held.value]]);
 }
 
 int main(void)
@@ -53,6 +85,7 @@ int main(void)
 
     if (sumbilak_format(image, IMAGE, P, C, M, N).number != 0)
         return 1;
+    write_through();
     show("fresh", 0);
 
     sumbilak_answer made = sumbilak_plan_write(image, IMAGE, 0, strlen("monday 9:00"), plan, PLAN);
@@ -69,6 +102,8 @@ int main(void)
     made = sumbilak_plan_write(image, IMAGE, 0, strlen("tuesday 8:30"), plan, PLAN);
     if (made.number != 0 || perform(0, "tuesday 8:30", plan, made.value, made.value - 2).number != 0)
         return 1;
+    if (start_up() != 0)
+        return 1;
     show("cut before LINK", 0);
 
     /* After the cut a plan is made for the image found. */
@@ -78,7 +113,7 @@ int main(void)
     show("written again", 0);
 
     sumbilak_report_answer r = sumbilak_report(image, IMAGE);
-    printf("held %llu, free %llu, alarm below 19 units: %llu\n", (unsigned long long)r.held, (unsigned long long)r.free,
-           (unsigned long long)sumbilak_alarm_count(image, IMAGE, 19).value);
+    printf("held %llu, free %llu, alarm below 20 units: %llu\n", (unsigned long long)r.held, (unsigned long long)r.free,
+           (unsigned long long)sumbilak_alarm_count(image, IMAGE, 20).value);
     return 0;
 }

@@ -9,7 +9,7 @@
  * their type. A slice that is written overlaps no other argument. These are the only things a caller has to see to: any bytes and any numbers get an
  * answer, and nobody has to check first.
  *
- * Answers. number 0 is an answer, with value and extent as each call says. Any other number is a refusal:
+ * Answers. number 0 is an answer, with value and extent as each call says, 0 where it names none. Any other number is a refusal:
  *
  *    no.  name        when                                                          place
  *     1   SHORT       image under 32 bytes                                          0
@@ -52,6 +52,13 @@ enum {
     SUMBILAK_PIECE_BYTES = 12         /* a piece of a split */
 };
 
+/* The kinds of step, "absent" in a step's value, and what sumbilak_access answers. */
+enum { SUMBILAK_DATA = 1, SUMBILAK_MAP = 2, SUMBILAK_LINK = 3, SUMBILAK_FENCE = 4 };
+
+#define SUMBILAK_ABSENT UINT32_C(4294967295)
+
+enum { SUMBILAK_READS_NOTHING = 0, SUMBILAK_READS_ZEROS = 1, SUMBILAK_READS_CHUNK = 2 };
+
 /* The bytes of an image with p units in a chunk, c chunks and m chunk maps. */
 #define SUMBILAK_IMAGE_BYTES(p, c, m) (8 * (c) + 8 * (m) * (p) + 32)
 
@@ -89,8 +96,8 @@ typedef struct {
     double saved_ratio; /* saved / (C * P) */
 } sumbilak_report_answer;
 
-/* Writes the image of a fresh volume: p units in a chunk (2 to 16), c chunks (1 to 256), m chunk maps (c+1 to c+32), n backing units (p to p*m). The
- * length is exactly SUMBILAK_IMAGE_BYTES(p, c, m). With n at least (c+1)*p a write never finds too little room. Refuses with 3 only. */
+/* Writes the image of a fresh volume: p units in a chunk (2 to 16), c chunks (1 to 256), m chunk maps (c+1 to c+32), n backing units (p to p*m). Any
+ * length but SUMBILAK_IMAGE_BYTES(p, c, m) is refused too. With n at least (c+1)*p a write never finds too little room. Refuses with 3 only. */
 sumbilak_answer sumbilak_format(uint8_t *image, size_t len, uint64_t p, uint64_t c, uint64_t m, uint64_t n);
 
 /* Judges an image and rebuilds its free sets. Writes P, C, M, N, then 72 words with a bit for each free unit, then 5 words with a bit for each free map
@@ -109,7 +116,8 @@ sumbilak_answer sumbilak_access(const uint8_t *image, size_t len, bool write, ui
  * unmapped chunk. Refuses with 1 to 7. */
 sumbilak_answer sumbilak_held(const uint8_t *image, size_t len, uint64_t chunk);
 
-/* Plans a write of `size` compressed bytes to a chunk, on the lowest free units and the lowest free map. value: steps, 16 bytes each:
+/* Plans a write of `size` compressed bytes to a chunk, on the lowest free units and the lowest free map: size / 4,096, rounded up, units. A chunk on all P
+ * units is stored raw. The image keeps the number of units and not the size: a payload that needs its length carries it. value: steps, 16 bytes each:
  *    1 DATA  unit, piece, 0     the caller writes piece `piece` of the payload to that unit
  *    2 MAP   map, word, value   a word of the chunk map (4294967295: absent)
  *    3 LINK  chunk, 0, value    the chunk's entry (4294967295: absent)
@@ -126,7 +134,9 @@ sumbilak_answer sumbilak_check_write(const uint8_t *image, size_t len, uint64_t 
 sumbilak_answer sumbilak_check_discard(const uint8_t *image, size_t len, uint64_t chunk, const uint8_t *plan, size_t plan_len);
 
 /* Checks the whole plan, then stores the MAP and LINK words of its first n steps in the image and no other byte. DATA steps and the order of FENCEs on the
- * disk are the caller's. Refuses as the check does, and with 7 for n above the plan's whole steps. */
+ * disk are the caller's. Call it again with a larger n as the steps come, up to and including LINK: from then on the plan is no plan for this image any more
+ * (11), and only FENCEs are left. LINK's word goes to the disk only when the FENCE before it has passed. To give a plan up half-way is a cut: nothing of it may
+ * still be on its way to the disk, and the image is read back from there. Refuses as the check does, and with 7 for n above the plan's whole steps. */
 sumbilak_answer sumbilak_carry_write(uint8_t *image, size_t len, uint64_t chunk, uint64_t size, const uint8_t *plan, size_t plan_len, uint64_t n);
 sumbilak_answer sumbilak_carry_discard(uint8_t *image, size_t len, uint64_t chunk, const uint8_t *plan, size_t plan_len, uint64_t n);
 

@@ -1,4 +1,4 @@
-/* Document 01's worked cases through the C interface, and the edges of C: empty slices, struct sizes. Silent where all is right. */
+/* Document 01's worked cases through the C interface, and the edges of C: empty slices, struct sizes. Says only what is wrong, and how many are right. */
 #include <math.h>
 #include <stdio.h>
 #include <stdlib.h>
