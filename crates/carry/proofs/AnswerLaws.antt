@@ -17,9 +17,9 @@ use Rattle.image.specs.Answers.{ifSound}
 use Rattle.image.proofs.SoundLaws.{tested-passed}
 use Rattle.steps.specs.declared.Request.{Request}
 use Rattle.steps.specs.Steps.{wholeSteps}
-use Rattle.checker.specs.declared.Checked.{Checked}
-use Rattle.checker.specs.declared.Checked.the-variants.{Accepted, Refused as Denied}
-use Rattle.checker.specs.Rules.{rule1, judged, checked}
+use Rattle.rules.specs.declared.Checked.{Checked}
+use Rattle.rules.specs.declared.Checked.the-variants.{Accepted, Refused as Denied}
+use Rattle.rules.specs.Rules.{rule1, judged, checked}
 use Rattle.checker.proofs.Accepting.{accepted-of}
 use Rattle.checker.proofs.Judging.{checked-sound}
 use Rattle.carry.specs.Carry.{carried, carryIn, carryAnswer, leftBy, carryImage}

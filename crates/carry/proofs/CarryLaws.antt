@@ -24,7 +24,7 @@ use Rattle.steps.specs.declared.Step.the-variants.{Data, Map, Link, Fence}
 use Rattle.steps.specs.declared.Decoded.{Decoded}
 use Rattle.steps.specs.declared.Decoded.the-variants.{Whole, Malformed}
 use Rattle.steps.specs.Steps.{wordOf}
-use Rattle.checker.specs.Rules.{valueBelow, inRange, wholeInRange}
+use Rattle.rules.specs.Rules.{valueBelow, inRange, wholeInRange}
 use Rattle.carry.specs.Carry.{carry, Misses}
 use Rattle.carry.specs.Carrying.{carryDecoded}
 

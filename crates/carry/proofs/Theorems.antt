@@ -14,10 +14,10 @@ use Rattle.steps.specs.declared.Step.{Step}
 use Rattle.steps.specs.declared.Request.{Request}
 use Rattle.steps.specs.Steps.{wholeSteps, stepsOf}
 use Rattle.steps.specs.Encodable.{Each}
-use Rattle.checker.specs.declared.Checked.{Checked}
-use Rattle.checker.specs.declared.Checked.the-variants.{Accepted, Refused as Denied}
-use Rattle.checker.specs.Rules.{checked}
-use Rattle.checker.proofs.StepLaws.{InRange, each-in-range}
+use Rattle.rules.specs.declared.Checked.{Checked}
+use Rattle.rules.specs.declared.Checked.the-variants.{Accepted, Refused as Denied}
+use Rattle.rules.specs.Rules.{checked}
+use Rattle.rules.proofs.StepLaws.{InRange, each-in-range}
 use Rattle.checker.proofs.Accepting.{accepted-of}
 use Rattle.carry.specs.Carry.{carry, carryAll, carried, Misses, carryAnswer, leftBy, carryImage}
 use Rattle.carry.proofs.CarryLaws.{on-carry, byte-miss, carry-trailer}

@@ -15,7 +15,7 @@ use Rattle.steps.specs.declared.Step.{Step}
 use Rattle.steps.specs.declared.Decoded.{Decoded}
 use Rattle.steps.specs.declared.Decoded.the-variants.{Whole, Malformed}
 use Rattle.steps.specs.Steps.{stepBytes, wholeSteps, decodeAt, stepsAppend}
-use Rattle.checker.specs.Rules.{maxSteps, wholeInRange, rule1}
+use Rattle.rules.specs.Rules.{maxSteps, wholeInRange, rule1}
 use Rattle.steps.proofs.Rest.{rest, rest-start, rest-next}
 use Rattle.carry.specs.Carry.{carryAll, carried}
 use Rattle.carry.specs.Carrying.{carryDecoded}

@@ -14,9 +14,9 @@ use Rattle.steps.specs.declared.Step.{Step}
 use Rattle.steps.specs.declared.Step.the-variants.{Data, Map, Link, Fence}
 use Rattle.steps.specs.declared.Request.{Request}
 use Rattle.steps.specs.Steps.{wordOf, stepsOf, wholeSteps}
-use Rattle.checker.specs.declared.Checked.{Checked}
-use Rattle.checker.specs.declared.Checked.the-variants.{Accepted, Refused as Denied}
-use Rattle.checker.specs.Rules.{judged}
+use Rattle.rules.specs.declared.Checked.{Checked}
+use Rattle.rules.specs.declared.Checked.the-variants.{Accepted, Refused as Denied}
+use Rattle.rules.specs.Rules.{judged}
 
 -- ---- the image: "stores the MAP and LINK words of those n and no other byte. DATA is the caller's."
 

@@ -1,10 +1,10 @@
 // Carrying a plan out on the image.
-use checker::Checked;
 use checker::check::judge;
 use image::Verdict;
 use image::load::load;
 use layout::Refusal;
 use layout::Shape;
+use rules::Checked;
 use steps::Decoded;
 use steps::Request;
 use steps::STEP_BYTES;
@@ -22,7 +22,7 @@ ghost use Rattle.layout.specs.Layout.{putWord};
 ghost use Rattle.image.specs.Free.{freeUnit, freeMap};
 ghost use Rattle.image.specs.Claims.{Tested};
 ghost use Rattle.steps.specs.Steps.{wordOf, wholeSteps};
-ghost use Rattle.checker.specs.Rules.{inRange, wholeInRange, rule1};
+ghost use Rattle.rules.specs.Rules.{inRange, wholeInRange, rule1};
 ghost use Rattle.carry.specs.Carry.{carry as carryOne, carried, carryIn, leftBy, carryAnswer, carryImage};
 ghost use Rattle.carry.specs.Carrying.{carryDecoded};
 

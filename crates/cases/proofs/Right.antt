@@ -11,7 +11,7 @@ use Rattle.image.specs.Soundness.{leading, unitsOf}
 use Rattle.image.specs.Verdicts.{badLink, badMap, chunkVerdict, clash, contested, doubleClaim, firstClaim, verdict, wellFormed}
 use Rattle.access.specs.Ranges.{goodRange, pieceOf, pieces, splitIn}
 use Rattle.steps.specs.Steps.{decodeAt, decodeFields, encode, encodeAll, gather, stepsOf}
-use Rattle.checker.specs.Rules.{afterLink, beforeLink, brokenRule, checked, collect, endsIn, every, judged, linkIn, linkedIn, linksAre, mapFits, mapIn, onceEach, pieceIn, planMap, rule1, rule2, rule3, rule4, rule5, unitIn, unitOf, wordIn}
+use Rattle.rules.specs.Rules.{afterLink, beforeLink, brokenRule, checked, collect, endsIn, every, judged, linkIn, linkedIn, linksAre, mapFits, mapIn, onceEach, pieceIn, planMap, rule1, rule2, rule3, rule4, rule5, unitIn, unitOf, wordIn}
 use Rattle.planner.specs.Planner.{dataSteps, mapSteps, planIn, planOf, valueFor, writeSteps}
 use Rattle.carry.specs.Carry.{carried, carryAll, carryIn}
 use Rattle.durable.specs.Events.{after, fenced, holds, lands, settle, goesAhead}

@@ -26,9 +26,9 @@ use Rattle.steps.specs.declared.Step.the-variants.{Data, Map, Link, Fence}
 use Rattle.steps.specs.declared.Request.{Request}
 use Rattle.steps.specs.declared.Request.the-variants.{Write, Discard}
 use Rattle.steps.specs.Steps.{stepBytes, encodeAll}
-use Rattle.checker.specs.declared.Checked.{Checked}
-use Rattle.checker.specs.declared.Checked.the-variants.{Accepted, Refused as Denied}
-use Rattle.checker.specs.Rules.{checked}
+use Rattle.rules.specs.declared.Checked.{Checked}
+use Rattle.rules.specs.declared.Checked.the-variants.{Accepted, Refused as Denied}
+use Rattle.rules.specs.Rules.{checked}
 use Rattle.planner.specs.declared.Planned.the-variants.{Steps, Refused as Unplanned}
 use Rattle.planner.specs.Planner.{planOf, planAnswer}
 use Rattle.carry.specs.Carry.{carryImage}

@@ -17,9 +17,9 @@ use Rattle.image.specs.Free.{freeUnit, freeMap}
 use Rattle.image.proofs.SoundLaws.{passed-tested, tested-passed}
 use Rattle.steps.specs.declared.Request.{Request}
 use Rattle.steps.specs.Steps.{stepsOf, chunkOf}
-use Rattle.checker.specs.declared.Checked.{Checked}
-use Rattle.checker.specs.declared.Checked.the-variants.{Accepted, Refused as Denied}
-use Rattle.checker.specs.Rules.{rule1, rule2, rule3, rule4, rule5, knownOf, goodChunk, goodSize, broken, brokenRule, judged, checked}
+use Rattle.rules.specs.declared.Checked.{Checked}
+use Rattle.rules.specs.declared.Checked.the-variants.{Accepted, Refused as Denied}
+use Rattle.rules.specs.Rules.{rule1, rule2, rule3, rule4, rule5, knownOf, goodChunk, goodSize, broken, brokenRule, judged, checked}
 
 -- a plan keeps the five rules on an image
 pub record Unbroken (s : List ℕ) (r : Request) (plan : List ℕ) : Type 0 where

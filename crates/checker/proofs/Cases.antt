@@ -12,7 +12,7 @@ use Rattle.steps.specs.declared.Step.the-variants.{Data, Map, Link, Fence}
 use Rattle.steps.specs.declared.Request.{Request}
 use Rattle.steps.specs.declared.Request.the-variants.{Write, Discard}
 use Rattle.steps.specs.Steps.{encode, encodeAll, gather, stepsOf, decodeAt, decodeFields}
-use Rattle.checker.specs.Rules.{known, brokenRule, rule1, rule2, rule3, rule4, rule5, onceEach, linksAre, collect, every, pieceIn, unitIn, mapIn, wordIn, linkIn, linkedIn, unitOf, planMap, mapFits, endsIn, beforeLink, afterLink}
+use Rattle.rules.specs.Rules.{known, brokenRule, rule1, rule2, rule3, rule4, rule5, onceEach, linksAre, collect, every, pieceIn, unitIn, mapIn, wordIn, linkIn, linkedIn, unitOf, planMap, mapFits, endsIn, beforeLink, afterLink}
 
 -- whether the chunk is mapped, the request, the plan, and the lowest rule broken
 pub record Case : Type 0 where

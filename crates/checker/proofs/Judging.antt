@@ -20,9 +20,9 @@ use Rattle.image.specs.Free.{freeUnit, freeMap}
 use Rattle.steps.specs.declared.Request.{Request}
 use Rattle.steps.specs.declared.Request.the-variants.{Write, Discard}
 use Rattle.steps.specs.Steps.{chunkOf, sizeOf}
-use Rattle.checker.specs.declared.Checked.the-variants.{Refused as Denied}
-use Rattle.checker.specs.Rules.{Known, known, knownOf, goodSize, broken, brokenRule, judged, checked}
-use Rattle.checker.proofs.Knowing.{known-is}
+use Rattle.rules.specs.declared.Checked.the-variants.{Refused as Denied}
+use Rattle.rules.specs.Rules.{Known, known, knownOf, goodSize, broken, brokenRule, judged, checked}
+use Rattle.rules.proofs.Knowing.{known-is}
 
 pub broken-some : (k : ℕ) → (k ≡ 0 → ⊥) → Denied (BadPlan k) ≡ broken k
 broken-some zero h = absurd (h refl)

@@ -1,22 +1,5 @@
--- Laws of the passes and of the answer, the rules to read against what is computed, and what an accepted plan says of each step.
-pub mod Folding
-pub mod Ranged
-pub mod Taking
-pub mod Placed
-pub mod Mapped
-pub mod Stored
-pub mod Linked
-pub mod Ordered
-pub mod Deciding
-pub mod Knowing
+-- Laws of the answer, worked plans, and the answer to read against what is computed.
 pub mod Cases
 pub mod Judging
 pub mod Accepting
-pub mod Places
-pub mod StepLaws
-pub mod Facts
-pub mod Wording
-pub mod Fencing
-pub mod Lowest
-pub mod Good
 pub mod Theorems

@@ -23,13 +23,13 @@ use Rattle.steps.specs.declared.Step.{Step}
 use Rattle.steps.specs.declared.Decoded.the-variants.{Whole}
 use Rattle.steps.specs.declared.Request.{Request}
 use Rattle.steps.specs.Steps.{wholeSteps, decodeAt, stepsOf, chunkOf}
-use Rattle.checker.specs.declared.Checked.{Checked}
-use Rattle.checker.specs.declared.Checked.the-variants.{Accepted, Refused}
-use Rattle.checker.specs.Rules.{Known, knownOf, brokenRule, broken, goodChunk, goodSize, judged, checked}
-use Rattle.checker.specs.Reading.{At, Rule1, KeepsAll, LowestBroken, GoodRequest, Refuses, Answers}
-use Rattle.checker.proofs.Good.{good-told, chunk-tested, size-tested}
-use Rattle.checker.proofs.Places.{step-told, step-there}
-use Rattle.checker.proofs.Lowest.{unbroken-kept, kept-unbroken, broken-lowest, lowest-broken}
+use Rattle.rules.specs.declared.Checked.{Checked}
+use Rattle.rules.specs.declared.Checked.the-variants.{Accepted, Refused}
+use Rattle.rules.specs.Rules.{Known, knownOf, brokenRule, broken, goodChunk, goodSize, judged, checked}
+use Rattle.rules.specs.Reading.{At, Rule1, KeepsAll, LowestBroken, GoodRequest, Refuses, Answers}
+use Rattle.rules.proofs.Good.{good-told, chunk-tested, size-tested}
+use Rattle.rules.proofs.Places.{step-told, step-there}
+use Rattle.rules.proofs.Lowest.{unbroken-kept, kept-unbroken, broken-lowest, lowest-broken}
 
 -- ---- the steps of a plan
 

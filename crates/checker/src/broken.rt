@@ -1,21 +1,21 @@
 // The lowest rule that a plan breaks.
-use crate::rule1::keeps_rule1;
-use crate::rule2::keeps_rule2;
-use crate::rule3::first_map;
-use crate::rule3::keeps_rule3;
-use crate::rule4::keeps_rule4;
-use crate::rule5::keeps_rule5;
 use image::MAP_SET_WORDS;
 use image::UNIT_SET_WORDS;
 use layout::ABSENT;
 use layout::MAX_CHUNK_UNITS;
 use layout::Shape;
+use rule1::keeps_rule1;
+use rule2::keeps_rule2;
+use rule3::first_map;
+use rule3::keeps_rule3;
+use rule4::keeps_rule4;
+use rule5::keeps_rule5;
 use steps::Request;
 ghost use mathlib.Core.Path.{_≡_};
 ghost use Prim.Native.Nat.{_≤_};
 ghost use Rattle.bitset.specs.Bits.{inSet};
 ghost use Rattle.steps.specs.Steps.{sizeOf};
-ghost use Rattle.checker.specs.Rules.{known, brokenRule};
+ghost use Rattle.rules.specs.Rules.{known, brokenRule};
 
 // The lowest rule broken, or 0, for a shape, whether the request's chunk is mapped, and the free units and maps.
 pub fn broken_rule(

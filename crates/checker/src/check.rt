@@ -1,5 +1,4 @@
 // The public check of a plan against an image.
-use crate::Checked;
 use crate::broken::broken_rule;
 use image::MAP_SET_WORDS;
 use image::UNIT_SET_WORDS;
@@ -10,6 +9,7 @@ use layout::ABSENT;
 use layout::Refusal;
 use layout::Shape;
 use layout::UNIT_BYTES;
+use rules::Checked;
 use steps::Request;
 ghost use mathlib.Core.Path.{_≡_};
 ghost use mathlib.Core.Bool.{true};
@@ -20,7 +20,7 @@ ghost use Rattle.image.specs.Free.{freeUnit, freeMap};
 ghost use Rattle.image.specs.Loading.{unitSetWords, mapSetWords};
 ghost use Rattle.bitset.specs.Bits.{bitSet};
 ghost use Rattle.steps.specs.Steps.{chunkOf};
-ghost use Rattle.checker.specs.Rules.{goodSize, judged, checked};
+ghost use Rattle.rules.specs.Rules.{goodSize, judged, checked};
 
 // The chunk of a request.
 pub fn chunk_of(request: Request) -> u64

@@ -1,38 +1,3 @@
-// The plan checker: document 01's five rules.
-use layout::Refusal;
-
-// What the checker answers.
-pub enum Checked {
-    Accepted,
-    Refused(Refusal),
-}
-
-// The passes of rules 2 to 4: how many steps of a kind are left to come, and whether each was right so far.
-pub struct Tally {
-    pub good: bool,
-    pub left: u32,
-}
-
-// Rule 5's pass: whether all stood in order so far, whether there was a LINK, whether the last step was a FENCE, and whether there was a step.
-pub struct Order {
-    pub good: bool,
-    pub linked: bool,
-    pub fenced: bool,
-    pub any: bool,
-}
-
-// The most steps that a plan may have.
-pub const MAX_STEPS: usize = 64;
-
-// The words of the sets of the pieces and of the words of a map that are left to come, a bit for each of at most 16.
-pub const SLOT_WORDS: usize = 1;
-
-mod bools;
+// The plan checker: document 01's five rules, and the lowest that is broken.
 mod broken;
 pub mod check;
-mod rule1;
-mod rule2;
-mod rule3;
-mod rule4;
-mod rule5;
-mod tallies;

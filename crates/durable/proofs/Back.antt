@@ -13,8 +13,8 @@ use Rattle.image.proofs.Freed.{freed-unit, freed-map}
 use Rattle.image.proofs.Theorems.{sound-loads}
 use Rattle.steps.specs.declared.Request.{Request}
 use Rattle.steps.specs.Steps.{stepsOf, wholeSteps, chunkOf}
-use Rattle.checker.specs.declared.Checked.the-variants.{Accepted}
-use Rattle.checker.specs.Rules.{checked}
+use Rattle.rules.specs.declared.Checked.the-variants.{Accepted}
+use Rattle.rules.specs.Rules.{checked}
 use Rattle.carry.specs.Carry.{carryImage}
 use Rattle.durable.specs.Events.{Volume, Event, complete, goesAhead, settle, after}
 use Rattle.durable.specs.LoadsBack.{newLink, newUnits, LoadsBack}

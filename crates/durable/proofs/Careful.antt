@@ -16,10 +16,10 @@ use Rattle.image.proofs.Fate.{Same, same-units}
 use Rattle.image.proofs.Room.{freeUnit-unheld, freeMap-unnamed}
 use Rattle.steps.specs.declared.Step.{Step}
 use Rattle.steps.specs.declared.Step.the-variants.{Data, Map, Link, Fence}
-use Rattle.checker.specs.Rules.{planMap, units}
+use Rattle.rules.specs.Rules.{planMap, units}
 use Rattle.steps.specs.Encodable.{Each}
-use Rattle.checker.proofs.StepLaws.{InRange, each-two, OnMap, NoMap, Spares, each-spares, none-empty}
-use Rattle.checker.proofs.Facts.{Writes, Discards}
+use Rattle.rules.proofs.StepLaws.{InRange, each-two, OnMap, NoMap, Spares, each-spares, none-empty}
+use Rattle.rules.proofs.Facts.{Writes, Discards}
 use Rattle.carry.specs.Carry.{Misses}
 use Rattle.carry.proofs.CarryLaws.{word-below, chunk-below}
 use Rattle.durable.specs.Events.{Volume, Event, settle, holds}

@@ -7,8 +7,8 @@ use native.Mathlib.Omega.{arith}
 use lib.ListN.{length, take}
 use Rattle.steps.specs.declared.Step.{Step}
 use Rattle.steps.specs.Steps.{stepsOf}
-use Rattle.checker.specs.declared.Checked.{Checked}
-use Rattle.checker.specs.declared.Checked.the-variants.{Accepted, Refused}
+use Rattle.rules.specs.declared.Checked.{Checked}
+use Rattle.rules.specs.declared.Checked.the-variants.{Accepted, Refused}
 use Rattle.carry.specs.Carry.{carryAll, carried, carryAnswer, leftBy, carryImage}
 use Rattle.durable.specs.Events.{Volume, Event, store, accepted, goesAhead, lands, settle, after}
 use Rattle.durable.proofs.Settle.{next, settle-nil, settle-cons}

@@ -17,16 +17,16 @@ use Rattle.steps.specs.declared.Step.{Step}
 use Rattle.steps.specs.declared.Decoded.the-variants.{Whole}
 use Rattle.steps.specs.Steps.{decodeAt, stepsOf, wholeSteps, chunkOf}
 use Rattle.steps.specs.Encodable.{Each}
-use Rattle.checker.specs.declared.Checked.{Checked}
-use Rattle.checker.specs.declared.Checked.the-variants.{Accepted, Refused}
-use Rattle.checker.specs.Rules.{rule1, checked}
+use Rattle.rules.specs.declared.Checked.{Checked}
+use Rattle.rules.specs.declared.Checked.the-variants.{Accepted, Refused}
+use Rattle.rules.specs.Rules.{rule1, checked}
 use Rattle.checker.proofs.Accepting.{Passed, accepted-of}
-use Rattle.checker.proofs.Places.{at-below, step-there}
-use Rattle.checker.proofs.Wording.{rule1-told}
+use Rattle.rules.proofs.Places.{at-below, step-there}
+use Rattle.rules.proofs.Wording.{rule1-told}
 use Rattle.carry.specs.Carry.{carryAnswer}
 use Rattle.carry.proofs.AnswerLaws.{answer-accepted, accepted-answer}
 use Rattle.durable.specs.Events.{Volume, Event, Outcome, refused, finished, cut, accepted, goesAhead, lands, complete, settle, linkLands, after, holds, outcome, entry, entered}
-use Rattle.checker.proofs.StepLaws.{InRange, each-in-range}
+use Rattle.rules.proofs.StepLaws.{InRange, each-in-range}
 use Rattle.durable.proofs.Settle.{settle-trailer}
 use Rattle.durable.proofs.Requests.{Settled, settled-any}
 

@@ -14,12 +14,12 @@ use Rattle.search.proofs.Bools.{contradict, is-false, and-left, or-left, or-rig
 use Rattle.steps.specs.declared.Step.{Step}
 use Rattle.steps.specs.declared.Step.the-variants.{Data, Map, Link, Fence}
 use Rattle.steps.specs.Steps.{stepsOf, wholeSteps}
-use Rattle.checker.specs.Rules.{collect, linkIn, unitIn, mapIn, units, maps, links, endsIn, beforeLink, afterLink, isNone, isFence}
-use Rattle.checker.proofs.Facts.{Guarded}
-use Rattle.checker.proofs.Fencing.{split}
+use Rattle.rules.specs.Rules.{collect, linkIn, unitIn, mapIn, units, maps, links, endsIn, beforeLink, afterLink, isNone, isFence}
+use Rattle.rules.proofs.Facts.{Guarded}
+use Rattle.rules.proofs.Fencing.{split}
 use Rattle.durable.specs.Events.{Event, fenced, complete, lands, linkLands}
 use Rattle.durable.proofs.Settle.{Solid}
-use Rattle.checker.proofs.Places.{length-steps}
+use Rattle.rules.proofs.Places.{length-steps}
 
 -- fenced steps are steps
 fenced-most : (xs : List Step) → fenced xs ≤ length xs

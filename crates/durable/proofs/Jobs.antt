@@ -20,8 +20,8 @@ use Rattle.image.proofs.Fate.{Fate, emptied, renewed}
 use Rattle.steps.specs.declared.Step.{Step}
 use Rattle.steps.specs.Steps.{stepsOf}
 use Rattle.steps.specs.Encodable.{Each}
-use Rattle.checker.proofs.StepLaws.{Links}
-use Rattle.checker.proofs.Facts.{Deal}
+use Rattle.rules.proofs.StepLaws.{Links}
+use Rattle.rules.proofs.Facts.{Deal}
 use Rattle.durable.specs.Events.{Volume, Event, settle, holds}
 use Rattle.durable.proofs.Settle.{Solid}
 use Rattle.durable.proofs.Linking.{linkLandsOn, set-link}

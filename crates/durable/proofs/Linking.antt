@@ -15,7 +15,7 @@ use Rattle.steps.specs.declared.Value.{Value}
 use Rattle.steps.specs.declared.Step.{Step}
 use Rattle.steps.specs.declared.Step.the-variants.{Data, Map, Link, Fence}
 use Rattle.steps.specs.Encodable.{Each}
-use Rattle.checker.proofs.StepLaws.{InRange, OnLink, Links}
+use Rattle.rules.proofs.StepLaws.{InRange, OnLink, Links}
 use Rattle.carry.proofs.CarryLaws.{carried-link}
 use Rattle.durable.specs.Events.{Volume, Event, store, lands, settle, linkLands}
 use Rattle.durable.proofs.Settle.{on-store, store-miss, next, settle-nil, settle-cons}

@@ -19,12 +19,12 @@ use Rattle.steps.specs.declared.Step.{Step}
 use Rattle.steps.specs.declared.Request.{Request}
 use Rattle.steps.specs.declared.Request.the-variants.{Write, Discard}
 use Rattle.steps.specs.Steps.{unitsFor, stepsOf, chunkOf}
-use Rattle.checker.specs.Rules.{links, isNone, endsIn, planMap, unitOf}
+use Rattle.rules.specs.Rules.{links, isNone, endsIn, planMap, unitOf}
 use Rattle.checker.proofs.Accepting.{Passed}
 use Rattle.steps.specs.Encodable.{Each}
 use Rattle.steps.proofs.Codec.{each-map}
-use Rattle.checker.proofs.StepLaws.{InRange, Links, OnLink, on-links, each-in-range}
-use Rattle.checker.proofs.Facts.{Writes, writes, Discards, discards, discards-nothing}
+use Rattle.rules.proofs.StepLaws.{InRange, Links, OnLink, on-links, each-in-range}
+use Rattle.rules.proofs.Facts.{Writes, writes, Discards, discards, discards-nothing}
 use Rattle.durable.specs.Events.{Volume, Event, lands, complete, settle, linkLands, holds, newPieces}
 use Rattle.durable.specs.LoadsBack.{newLink, newUnits}
 use Rattle.durable.proofs.Settle.{Solid, settle-nil, set-content}

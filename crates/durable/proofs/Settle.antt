@@ -17,9 +17,9 @@ use Rattle.layout.specs.Shaped.{On}
 use Rattle.layout.proofs.Place.{place-past, place-map, place-word}
 use Rattle.steps.specs.declared.Step.{Step}
 use Rattle.steps.specs.declared.Step.the-variants.{Data, Map, Link, Fence}
-use Rattle.checker.specs.Rules.{collect, unitIn, pieceIn, pieces, units, unitOf}
+use Rattle.rules.specs.Rules.{collect, unitIn, pieceIn, pieces, units, unitOf}
 use Rattle.steps.specs.Encodable.{Each}
-use Rattle.checker.proofs.StepLaws.{InRange, each-two, Stores, Spares, Skips, wordsOn, wordsOn-here, wordsOn-other, each-spares, each-skips, unitOf-here, unitOf-later}
+use Rattle.rules.proofs.StepLaws.{InRange, each-two, Stores, Spares, Skips, wordsOn, wordsOn-here, wordsOn-other, each-spares, each-skips, unitOf-here, unitOf-later}
 use Rattle.carry.specs.Carry.{Misses}
 use Rattle.carry.proofs.CarryLaws.{word-below, chunk-below, on-carry, carry-miss, carry-trailer, carried-word}
 use Rattle.durable.specs.Events.{Volume, Event, store, lands, fill, settle}

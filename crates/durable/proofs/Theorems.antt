@@ -21,10 +21,10 @@ use Rattle.steps.specs.declared.Request.{Request}
 use Rattle.steps.specs.declared.Request.the-variants.{Write, Discard}
 use Rattle.steps.specs.Steps.{wholeSteps, stepsOf, chunkOf, needOf, encodeAll}
 use Rattle.steps.proofs.Codec.{whole-encoded}
-use Rattle.checker.specs.declared.Checked.the-variants.{Accepted}
-use Rattle.checker.specs.Rules.{checked, planMap}
-use Rattle.checker.specs.Reading.{GoodRequest}
-use Rattle.checker.proofs.Good.{chunk-tested, size-tested}
+use Rattle.rules.specs.declared.Checked.the-variants.{Accepted}
+use Rattle.rules.specs.Rules.{checked, planMap}
+use Rattle.rules.specs.Reading.{GoodRequest}
+use Rattle.rules.proofs.Good.{chunk-tested, size-tested}
 use Rattle.carry.specs.Carry.{carryImage}
 use Rattle.planner.specs.Planner.{planOf}
 use Rattle.planner.proofs.Accepted.{planned-accepted, plan-map, plan-pieces, plan-read}

@@ -22,8 +22,8 @@ use Rattle.image.proofs.Room.{freeUnit-below, freeUnit-unheld, freeMap-below, f
 use Rattle.layout.proofs.Place.{on-limits}
 use Rattle.steps.specs.declared.Step.{Step}
 use Rattle.steps.specs.Encodable.{Each}
-use Rattle.checker.proofs.StepLaws.{InRange}
-use Rattle.checker.proofs.Facts.{Deal}
+use Rattle.rules.proofs.StepLaws.{InRange}
+use Rattle.rules.proofs.Facts.{Deal}
 use Rattle.durable.specs.Events.{Volume, Event, settle, holds}
 use Rattle.durable.proofs.Settle.{Solid, on-settle, set-word}
 use Rattle.durable.proofs.Linking.{linkLandsOn, set-link}

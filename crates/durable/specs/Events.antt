@@ -10,9 +10,9 @@ use Rattle.steps.specs.declared.Step.{Step}
 use Rattle.steps.specs.declared.Step.the-variants.{Data, Map, Link, Fence}
 use Rattle.steps.specs.declared.Request.{Request}
 use Rattle.steps.specs.Steps.{stepsOf, wholeSteps, chunkOf, needOf}
-use Rattle.checker.specs.declared.Checked.{Checked}
-use Rattle.checker.specs.declared.Checked.the-variants.{Accepted, Refused}
-use Rattle.checker.specs.Rules.{isFence}
+use Rattle.rules.specs.declared.Checked.{Checked}
+use Rattle.rules.specs.declared.Checked.the-variants.{Accepted, Refused}
+use Rattle.rules.specs.Rules.{isFence}
 use Rattle.carry.specs.Carry.{carry, carryAnswer}
 
 -- ---- volumes and events

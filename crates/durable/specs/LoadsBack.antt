@@ -19,9 +19,9 @@ use Rattle.steps.specs.declared.Step.{Step}
 use Rattle.steps.specs.declared.Request.{Request}
 use Rattle.steps.specs.declared.Request.the-variants.{Write, Discard}
 use Rattle.steps.specs.Steps.{stepBytes, stepsOf, wholeSteps, chunkOf, needOf, encodeAll}
-use Rattle.checker.specs.declared.Checked.the-variants.{Accepted}
-use Rattle.checker.specs.Rules.{planMap, unitOf, checked}
-use Rattle.checker.specs.Reading.{GoodRequest}
+use Rattle.rules.specs.declared.Checked.the-variants.{Accepted}
+use Rattle.rules.specs.Rules.{planMap, unitOf, checked}
+use Rattle.rules.specs.Reading.{GoodRequest}
 use Rattle.planner.specs.declared.Planned.the-variants.{Steps}
 use Rattle.planner.specs.Planner.{planOf, planAnswer, planOut}
 use Rattle.carry.specs.Carry.{carryImage}

@@ -8,7 +8,7 @@ use Rattle.image.specs.Soundness.{Sound}
 use Rattle.image.specs.Free.{freeUnits}
 use Rattle.steps.specs.declared.Request.{Request}
 use Rattle.steps.specs.Steps.{wholeSteps, chunkOf, needOf, encodeAll}
-use Rattle.checker.specs.Reading.{GoodRequest}
+use Rattle.rules.specs.Reading.{GoodRequest}
 use Rattle.planner.specs.Planner.{planOf}
 use Rattle.durable.specs.Events.{Volume, Event, holds, after, newPieces, finished, outcome}
 

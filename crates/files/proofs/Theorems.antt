@@ -16,10 +16,10 @@ use Rattle.image.specs.Verdicts.{verdict}
 use Rattle.image.specs.Answers.{ifSound}
 use Rattle.steps.specs.declared.Request.{Request}
 use Rattle.steps.specs.Steps.{wholeSteps}
-use Rattle.checker.specs.declared.Checked.{Checked}
-use Rattle.checker.specs.declared.Checked.the-variants.{Refused as Denied}
-use Rattle.checker.proofs.Deciding.{broken-1}
-use Rattle.checker.specs.Rules.{rule1, knownOf, goodChunk, goodSize, judged, checked}
+use Rattle.rules.specs.declared.Checked.{Checked}
+use Rattle.rules.specs.declared.Checked.the-variants.{Refused as Denied}
+use Rattle.rules.proofs.Deciding.{broken-1}
+use Rattle.rules.specs.Rules.{rule1, knownOf, goodChunk, goodSize, judged, checked}
 use Rattle.carry.specs.Carry.{carryIn, carryAnswer}
 use Rattle.files.specs.LongPlans.{readOf, askedOf}
 use Rattle.files.proofs.Parts.{part-length}

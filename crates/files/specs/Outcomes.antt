@@ -1,8 +1,8 @@
 -- How a program ends, by what the library answered it.
 use Rattle.report.specs.declared.Alarm.{Alarm}
 use Rattle.report.specs.declared.Alarm.the-variants.{Sounds, Silent, Refused as NoLevel}
-use Rattle.checker.specs.declared.Checked.{Checked}
-use Rattle.checker.specs.declared.Checked.the-variants.{Accepted, Refused as Denied}
+use Rattle.rules.specs.declared.Checked.{Checked}
+use Rattle.rules.specs.declared.Checked.the-variants.{Accepted, Refused as Denied}
 use Rattle.files.specs.declared.Outcome.{Outcome}
 use Rattle.files.specs.declared.Outcome.the-variants.{Answered, Refused}
 use Rattle.files.specs.declared.Word.the-variants.{Accepted as accepted, Sounds as sounds, Silent as silent}

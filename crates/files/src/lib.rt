@@ -1,11 +1,11 @@
 // The work of the programs: their arguments, their files, and what they print. Each program is one call of `commands`.
-use checker::MAX_STEPS;
 use layout::MAX_CHUNK_UNITS;
 use layout::MAX_CHUNKS;
 use layout::MAX_UNITS;
 use layout::Refusal;
 use layout::TRAILER_BYTES;
 use report::Level;
+use rules::MAX_STEPS;
 use steps::Request;
 use steps::STEP_BYTES;
 

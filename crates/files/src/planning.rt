@@ -9,12 +9,12 @@ use crate::making::make_file;
 use crate::reading::read_file;
 use crate::saying::labelled;
 use crate::saying::text;
-use checker::Checked;
 use checker::check::check;
 use layout::Refusal;
 use planner::Planned;
 use planner::plan::plan_discard;
 use planner::plan::plan_write;
+use rules::Checked;
 use steps::Decoded;
 use steps::Request;
 use steps::STEP_BYTES;
@@ -24,7 +24,7 @@ use steps::decode::decode_at;
 ghost use mathlib.Core.Path.{_≡_};
 ghost use lib.ListN.{length};
 ghost use Rattle.planner.specs.Planner.{planAnswer, planOut};
-ghost use Rattle.checker.specs.Rules.{checked};
+ghost use Rattle.rules.specs.Rules.{checked};
 ghost use Rattle.files.specs.Outcomes.{checkOutcome};
 
 // What a MAP or LINK step stores.

@@ -35,8 +35,8 @@ use Rattle.steps.specs.declared.Request.the-variants.{Write, Discard}
 use Rattle.steps.specs.Steps.{stepBytes, unitsFor, needOf, wordOf, decodeAt, stepsOf, encodeAll}
 use Rattle.steps.specs.Encodable.{Each, ValueFits, Fits}
 use Rattle.steps.proofs.Codec.{each-map, decoded, whole-encoded, steps-encoded, length-encoded}
-use Rattle.checker.specs.declared.Checked.the-variants.{Accepted as Accept}
-use Rattle.checker.specs.Rules.{maxSteps, collect, every, pieceIn, unitIn, mapIn, wordIn, linkIn, linkedIn, unitOf, mapFits, planMap, endsIn, beforeLink, afterLink, onceEach, linksAre, valueBelow, inRange, wholeInRange, rule1, rule2, rule3, rule4, rule5, goodChunk, goodSize, checked, pieces, units, maps, words, links, linked}
+use Rattle.rules.specs.declared.Checked.the-variants.{Accepted as Accept}
+use Rattle.rules.specs.Rules.{maxSteps, collect, every, pieceIn, unitIn, mapIn, wordIn, linkIn, linkedIn, unitOf, mapFits, planMap, endsIn, beforeLink, afterLink, onceEach, linksAre, valueBelow, inRange, wholeInRange, rule1, rule2, rule3, rule4, rule5, goodChunk, goodSize, checked, pieces, units, maps, words, links, linked}
 use Rattle.checker.proofs.Accepting.{Unbroken, accepted}
 use Rattle.planner.specs.Planner.{dataStep, dataSteps, valueFor, mapStep, mapSteps, linkSteps, writeSteps, planOf}
 use Rattle.planner.proofs.Storing.{length-writeSteps}

@@ -31,7 +31,7 @@ use Rattle.steps.specs.declared.Request.{Request}
 use Rattle.steps.specs.declared.Request.the-variants.{Write, Discard}
 use Rattle.steps.specs.Steps.{unitsFor, chunkOf, needOf, putSteps}
 use Rattle.steps.proofs.Encoding.{putSteps-cons, putSteps-front}
-use Rattle.checker.specs.Rules.{goodSize}
+use Rattle.rules.specs.Rules.{goodSize}
 use Rattle.planner.specs.declared.Planned.{Planned}
 use Rattle.planner.specs.declared.Planned.the-variants.{Steps, Refused}
 use Rattle.planner.specs.Planner.{writeSteps, planOf, ifFree, ifRoom, planIn, planAnswer, written, planOut}

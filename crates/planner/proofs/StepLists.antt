@@ -12,7 +12,7 @@ use Rattle.search.proofs.Bools.{either, cond-true, cond-false}
 use Rattle.steps.specs.declared.Step.{Step}
 use Rattle.steps.specs.declared.Step.the-variants.{Data, Fence}
 use Rattle.steps.specs.Encodable.{Each}
-use Rattle.checker.specs.Rules.{collect, every, unitOf, endsIn, isFence, beforeLink}
+use Rattle.rules.specs.Rules.{collect, every, unitOf, endsIn, isFence, beforeLink}
 
 module _ (f : ℕ → Step) (t : List Step) where
   -- a function that passes over each of them

@@ -29,10 +29,10 @@ use Rattle.steps.specs.declared.Request.{Request}
 use Rattle.steps.specs.declared.Request.the-variants.{Write, Discard}
 use Rattle.steps.specs.Steps.{stepBytes, unitsFor, chunkOf, needOf, encodeAll}
 use Rattle.steps.proofs.Codec.{length-encoded}
-use Rattle.checker.specs.declared.Checked.the-variants.{Accepted}
-use Rattle.checker.specs.Rules.{units, planMap, goodChunk, goodSize, checked}
-use Rattle.checker.specs.Reading.{GoodRequest}
-use Rattle.checker.proofs.Good.{good-told, chunk-tested, size-tested}
+use Rattle.rules.specs.declared.Checked.the-variants.{Accepted}
+use Rattle.rules.specs.Rules.{units, planMap, goodChunk, goodSize, checked}
+use Rattle.rules.specs.Reading.{GoodRequest}
+use Rattle.rules.proofs.Good.{good-told, chunk-tested, size-tested}
 use Rattle.planner.specs.declared.Planned.{Planned}
 use Rattle.planner.specs.declared.Planned.the-variants.{Steps, Refused}
 use Rattle.planner.specs.Planner.{planOf, planIn, planAnswer, written, planOut}

@@ -19,7 +19,7 @@ use Rattle.steps.specs.declared.Step.the-variants.{Data, Map, Link, Fence}
 use Rattle.steps.specs.declared.Request.{Request}
 use Rattle.steps.specs.declared.Request.the-variants.{Write, Discard}
 use Rattle.steps.specs.Steps.{stepBytes, unitsFor, needOf, encodeAll}
-use Rattle.checker.specs.Rules.{goodChunk, goodSize}
+use Rattle.rules.specs.Rules.{goodChunk, goodSize}
 use Rattle.planner.specs.declared.Planned.{Planned}
 use Rattle.planner.specs.declared.Planned.the-variants.{Steps, Refused}
 

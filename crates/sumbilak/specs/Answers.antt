@@ -19,8 +19,8 @@ use Rattle.report.specs.declared.Alarm.{Alarm}
 use Rattle.report.specs.declared.Alarm.the-variants.{Sounds, Silent, Refused as NoAlarm}
 use Rattle.planner.specs.declared.Planned.{Planned}
 use Rattle.planner.specs.declared.Planned.the-variants.{Steps, Refused as NotPlanned}
-use Rattle.checker.specs.declared.Checked.{Checked}
-use Rattle.checker.specs.declared.Checked.the-variants.{Accepted, Refused as Denied}
+use Rattle.rules.specs.declared.Checked.{Checked}
+use Rattle.rules.specs.declared.Checked.the-variants.{Accepted, Refused as Denied}
 use Rattle.sumbilak.specs.declared.Answer.{Answer}
 use Rattle.sumbilak.specs.declared.ReportAnswer.{ReportAnswer}
 

@@ -13,7 +13,7 @@ ghost use Rattle.access.specs.Parts.{heldOf};
 ghost use Rattle.report.specs.Reports.{reportAnswer};
 ghost use Rattle.report.specs.Alarms.{alarmAnswer};
 ghost use Rattle.planner.specs.Planner.{planAnswer, planOut};
-ghost use Rattle.checker.specs.Rules.{checked};
+ghost use Rattle.rules.specs.Rules.{checked};
 ghost use Rattle.carry.specs.Carry.{carryAnswer, carryImage};
 ghost use Rattle.sumbilak.specs.Loading.{loadAnswer, loadOut};
 ghost use Rattle.sumbilak.specs.Answers.{formattedAnswer, splitAnswers, accessAnswers, heldAnswer, plannedAnswer, checkedAnswer, reportedAnswer, alarmAnswers};

@@ -3,7 +3,7 @@ use mathlib.Core.Path.{sym, ap, _∙_}
 use borrow.Author.Needs.{needs}
 use Rattle.layout.specs.declared.Shape.{Shape}
 use Rattle.layout.proofs.Limits.{on-shaped}
-use Rattle.checker.specs.Rules.{rule1}
+use Rattle.rules.specs.Rules.{rule1}
 use Rattle.carry.proofs.AnswerLaws.{too-many, not-carried, all-carried, keeps-rule1}
 use Rattle.carry.proofs.carry_in.Statement.{statement}
 use Rattle.carry.proofs.carry_in.Tie as tie

@@ -8,7 +8,7 @@ use Rattle.layout.specs.Shaped.{On}
 use Rattle.layout.proofs.Limits.{on-shaped}
 use Rattle.steps.specs.Steps.{decodeAt}
 use Rattle.steps.proofs.Rest.{rest}
-use Rattle.checker.specs.Rules.{wholeInRange}
+use Rattle.rules.specs.Rules.{wholeInRange}
 use Rattle.carry.specs.Carry.{carryAll, carried}
 use Rattle.carry.specs.Carrying.{carryDecoded}
 use Rattle.carry.proofs.CarryLaws.{on-decoded}

@@ -1,7 +1,7 @@
 -- `checker::broken::broken_rule` meets its contract: each test that fails gives its rule, those before it having passed.
 use native.Mathlib.Omega.{arith}
 use borrow.Author.Tests.{not-false}
-use Rattle.checker.proofs.Deciding.{broke, kept, broken-1, broken-2, broken-3, broken-4, broken-5, broken-none}
+use Rattle.rules.proofs.Deciding.{broke, kept, broken-1, broken-2, broken-3, broken-4, broken-5, broken-none}
 use borrow.Author.Needs.{needs}
 use Rattle.checker.proofs.broken.broken_rule.Statement.{statement}
 use Rattle.checker.proofs.broken.broken_rule.Tie as tie

@@ -2,8 +2,8 @@
 use mathlib.Core.Path.{_∙_}
 use borrow.Author.Needs.{needs}
 use Rattle.image.proofs.Loads.{loaded-known, answer-sound, answer-refused}
-use Rattle.checker.specs.declared.Checked.the-variants.{Refused}
-use Rattle.checker.specs.Rules.{checked}
+use Rattle.rules.specs.declared.Checked.the-variants.{Refused}
+use Rattle.rules.specs.Rules.{checked}
 use Rattle.checker.proofs.check.check.Statement.{statement}
 use Rattle.checker.proofs.check.check.Tie as tie
 

@@ -6,7 +6,7 @@ use mathlib.Core.Bool.{true}
 use native.Mathlib.Omega.{arith}
 use borrow.Author.Tests.{not-true, not-false}
 use Rattle.steps.specs.Steps.{chunkOf}
-use Rattle.checker.specs.Rules.{broken, goodSize}
+use Rattle.rules.specs.Rules.{broken, goodSize}
 use Rattle.checker.proofs.Judging.{broken-some, size-low, range-refused, size-refused, rule-found}
 use Rattle.checker.proofs.check.judge.Statement.{statement}
 use Rattle.checker.proofs.check.judge.Tie as tie

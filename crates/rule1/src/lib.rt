@@ -1,0 +1,88 @@
+// Rule 1: whole steps, each in range.
+use layout::Shape;
+use rules::MAX_STEPS;
+use steps::Decoded;
+use steps::STEP_BYTES;
+use steps::Step;
+use steps::Value;
+use steps::decode::decode_at;
+ghost use mathlib.Core.Path.{_≡_};
+ghost use Rattle.rules.specs.Rules.{valueBelow, inRange, wholeInRange, rule1};
+
+fn value_below(n: u32, v: Value) -> bool
+    ensures { λ r. ⌜ r ≡ valueBelow n v ⌝ }
+{
+    match v {
+        Value::Number(w) => w < n,
+        Value::Absent => true,
+    }
+}
+
+fn map_in_range(g: Shape, map: u32, word: u32, value: Value) -> bool
+    ensures { λ r. ⌜ r ≡ inRange g (Step.Map map word value) ⌝ }
+{
+    if map >= g.m {
+        return false;
+    }
+    if word >= g.p {
+        return false;
+    }
+    value_below(g.n, value)
+}
+
+fn link_in_range(g: Shape, chunk: u32, value: Value) -> bool
+    ensures { λ r. ⌜ r ≡ inRange g (Step.Link chunk value) ⌝ }
+{
+    if chunk >= g.c {
+        return false;
+    }
+    value_below(g.m, value)
+}
+
+fn data_in_range(g: Shape, unit: u32, piece: u32, write: u32) -> bool
+    ensures { λ r. ⌜ r ≡ inRange g (Step.Data unit piece write) ⌝ }
+{
+    if unit >= g.n {
+        return false;
+    }
+    if piece >= g.p {
+        return false;
+    }
+    write == 0
+}
+
+fn whole_in_range(g: Shape, d: Decoded) -> bool
+    ensures { λ r. ⌜ r ≡ wholeInRange g d ⌝ }
+{
+    let Decoded::Whole(s) = d else {
+        return false;
+    };
+    match s {
+        Step::Data { unit, piece, write } => data_in_range(g, unit, piece, write),
+        Step::Map { map, word, value } => map_in_range(g, map, word, value),
+        Step::Link { chunk, value } => link_in_range(g, chunk, value),
+        Step::Fence => true,
+    }
+}
+
+// Whether a plan keeps rule 1.
+pub fn keeps_rule1(g: Shape, plan: &[u8]) -> bool
+    ensures { λ r. ⌜ r ≡ rule1 g (now (plan .entry)) ⌝ }
+{
+    if plan.len() % STEP_BYTES != 0 {
+        return false;
+    }
+    let n = plan.len() / STEP_BYTES;
+    if n > MAX_STEPS {
+        return false;
+    }
+    let mut i = 0;
+    while i < n {
+        let d = decode_at(plan, i);
+        if !whole_in_range(g, d) {
+            return false;
+        }
+        i += 1;
+    }
+    true
+}

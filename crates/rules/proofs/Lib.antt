@@ -1,0 +1,12 @@
+-- Laws of the passes, the rules to read against what is computed, and what a plan that keeps them says of each step.
+pub mod Folding
+pub mod Taking
+pub mod Deciding
+pub mod Knowing
+pub mod Places
+pub mod StepLaws
+pub mod Facts
+pub mod Wording
+pub mod Fencing
+pub mod Lowest
+pub mod Good
