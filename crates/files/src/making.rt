@@ -1,4 +1,4 @@
-// Files that are made or changed, each synced before the program says so.
+// Files that are made or changed. The contents of each are synced before the program says so; a new file's folder is not.
 use libc::SEEK_SET;
 
 // Writes bytes to an open file from where it stands, and waits until they have reached its device.
