@@ -1,16 +1,16 @@
 // Plans carried out on an image file.
-use crate::Length;
 use crate::MAX_IMAGE_BYTES;
-use crate::Outcome;
 use crate::PLAN_ROOM;
 use crate::READ_STEPS;
-use crate::Status;
-use crate::Word;
-use crate::making::rewrite;
-use crate::reading::file_length;
-use crate::reading::read_file;
-use crate::reading::read_open;
 use carry::carry;
+use host::Length;
+use host::Outcome;
+use host::Status;
+use host::Word;
+use host::making::rewrite;
+use host::reading::file_length;
+use host::reading::read_file;
+use host::reading::read_open;
 use layout::Refusal;
 use rules::Checked;
 use steps::Decoded;

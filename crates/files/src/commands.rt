@@ -1,19 +1,19 @@
 // The programs: what each does with its arguments, and its last line.
-use crate::Asked;
-use crate::Outcome;
-use crate::Threshold;
-use crate::arguments;
 use crate::carrying::carry_file;
 use crate::formatting::format_file;
 use crate::listing::list_file;
 use crate::planning::check_file;
 use crate::planning::plan_file;
-use crate::saying::complain;
-use crate::saying::conclude;
-use crate::saying::text;
 use crate::space::alarm_file;
 use crate::space::report_file;
 use decimals::Number;
+use host::Asked;
+use host::Outcome;
+use host::Threshold;
+use host::arguments;
+use host::saying::complain;
+use host::saying::conclude;
+use host::saying::text;
 
 fn list_one() -> Outcome {
     if !arguments::are(2, b"list FILE") {

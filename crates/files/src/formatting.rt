@@ -1,8 +1,8 @@
 // A fresh volume in a new file.
 use crate::MAX_IMAGE_BYTES;
-use crate::Outcome;
-use crate::Word;
-use crate::making::make_file;
+use host::Outcome;
+use host::Word;
+use host::making::make_file;
 use layout::Formatted;
 use layout::MAX_CHUNK_UNITS;
 use layout::MAX_CHUNKS;

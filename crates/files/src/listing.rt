@@ -1,14 +1,14 @@
 // The listing of a volume, as document 01 prints it.
 use crate::MAX_IMAGE_BYTES;
-use crate::Outcome;
-use crate::Status;
-use crate::Word;
-use crate::reading::read_file;
-use crate::saying::labelled;
-use crate::saying::number;
-use crate::saying::text;
 use access::parts::held;
 use bitset::count;
+use host::Outcome;
+use host::Status;
+use host::Word;
+use host::reading::read_file;
+use host::saying::labelled;
+use host::saying::number;
+use host::saying::text;
 use image::Verdict;
 use image::load::load;
 use image::maps::link;

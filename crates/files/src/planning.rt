@@ -1,15 +1,15 @@
 // Plans: made, printed in words, and checked.
 use crate::MAX_IMAGE_BYTES;
 use crate::OWN_PLAN_ROOM;
-use crate::Outcome;
 use crate::PLAN_ROOM;
-use crate::Status;
-use crate::Word;
-use crate::making::make_file;
-use crate::reading::read_file;
-use crate::saying::labelled;
-use crate::saying::text;
 use checker::check::check;
+use host::Outcome;
+use host::Status;
+use host::Word;
+use host::making::make_file;
+use host::reading::read_file;
+use host::saying::labelled;
+use host::saying::text;
 use layout::Refusal;
 use planner::Planned;
 use planner::plan::plan_discard;

@@ -1,12 +1,12 @@
 // The space report and the alarm.
 use crate::MAX_IMAGE_BYTES;
-use crate::Outcome;
-use crate::Status;
-use crate::Word;
-use crate::reading::read_file;
-use crate::saying::labelled;
-use crate::saying::number;
-use crate::saying::text;
+use host::Outcome;
+use host::Status;
+use host::Word;
+use host::reading::read_file;
+use host::saying::labelled;
+use host::saying::number;
+use host::saying::text;
 use image::Verdict;
 use layout::Refusal;
 use report::Alarm;

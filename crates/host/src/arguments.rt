@@ -13,7 +13,7 @@ use steps::Request;
 ghost use Prim.Native.Nat.{_≤_};
 
 // Whether there are `count` arguments, the program's own name among them. An argument too many is as wrong as a missing one: it was meant for something.
-pub(crate) fn are(count: usize, usage: &[u8]) -> bool {
+pub fn are(count: usize, usage: &[u8]) -> bool {
     if os::arg_count() == count {
         return true;
     }
@@ -34,7 +34,7 @@ fn number_in(text: &[u8]) -> Number {
 }
 
 // The number that argument i says.
-pub(crate) fn number(i: usize) -> Number {
+pub fn number(i: usize) -> Number {
     let mut text = [0u8; ARGUMENT_ROOM];
     let length = os::arg(i, &mut text);
     if os::errno() != 0 {
@@ -57,7 +57,7 @@ fn fraction_in(text: &[u8]) -> Fraction {
 }
 
 // The fraction that argument i says.
-pub(crate) fn fraction(i: usize) -> Fraction {
+pub fn fraction(i: usize) -> Fraction {
     let mut text = [0u8; ARGUMENT_ROOM];
     let length = os::arg(i, &mut text);
     if os::errno() != 0 {
@@ -68,7 +68,7 @@ pub(crate) fn fraction(i: usize) -> Fraction {
 }
 
 // Whether argument i is a word.
-pub(crate) fn is_word(i: usize, word: &[u8]) -> bool {
+pub fn is_word(i: usize, word: &[u8]) -> bool {
     let mut text = [0u8; ARGUMENT_ROOM];
     let length = os::arg(i, &mut text);
     if os::errno() != 0 {
@@ -104,7 +104,7 @@ fn discard_at(i: usize) -> Asked {
 }
 
 // The request that the arguments from i on say, and no other argument: `write CHUNK SIZE` or `discard CHUNK`.
-pub(crate) fn request(i: usize, usage: &[u8]) -> Asked
+pub fn request(i: usize, usage: &[u8]) -> Asked
     requires { ⌜ i ≤ 4 ⌝ }
 {
     if is_word(i, b"write") {
@@ -124,7 +124,7 @@ pub(crate) fn request(i: usize, usage: &[u8]) -> Asked
 }
 
 // The alarm level that arguments 2 and 3 say: `units COUNT` or `fraction DECIMAL`.
-pub(crate) fn level(usage: &[u8]) -> Threshold {
+pub fn level(usage: &[u8]) -> Threshold {
     if is_word(2, b"units") {
         let n = number(3);
         return match n {

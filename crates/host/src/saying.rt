@@ -6,16 +6,16 @@ use layout::refusals;
 use libc::STDERR_FILENO;
 use libc::STDOUT_FILENO;
 
-pub(crate) fn text(bytes: &[u8]) {
+pub fn text(bytes: &[u8]) {
     io::write_all(STDOUT_FILENO, bytes);
 }
 
-pub(crate) fn number(n: u64) {
+pub fn number(n: u64) {
     io::print_decimal(STDOUT_FILENO, n);
 }
 
 // A label and its number.
-pub(crate) fn labelled(label: &[u8], n: u64) {
+pub fn labelled(label: &[u8], n: u64) {
     text(label);
     number(n);
 }
@@ -26,7 +26,7 @@ fn reason(bytes: &[u8]) {
 }
 
 // A reason about what an argument or a file is.
-pub(crate) fn complain(what: &[u8], about: &[u8]) {
+pub fn complain(what: &[u8], about: &[u8]) {
     reason(what);
     reason(b": ");
     reason(about);
@@ -86,7 +86,7 @@ fn answered(word: Word) {
 }
 
 // The last line of a program.
-pub(crate) fn conclude(outcome: Outcome) {
+pub fn conclude(outcome: Outcome) {
     match outcome {
         Outcome::Answered(word) => answered(word),
         Outcome::Refused(r) => refused(r),

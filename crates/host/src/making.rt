@@ -15,7 +15,7 @@ fn put(fd: i32, name: &[u8], bytes: &[u8]) -> bool {
 }
 
 // Makes a new file of some bytes. A file that has the name already is left as it is; one that could not be written whole is removed again.
-pub(crate) fn make_named(name: &[u8], bytes: &[u8]) -> bool {
+pub fn make_named(name: &[u8], bytes: &[u8]) -> bool {
     let fd = os::create(name);
     if fd < 0 {
         os::fail(name);
@@ -30,7 +30,7 @@ pub(crate) fn make_named(name: &[u8], bytes: &[u8]) -> bool {
 }
 
 // Makes the new file that argument i names.
-pub(crate) fn make_file(i: usize, bytes: &[u8]) -> bool {
+pub fn make_file(i: usize, bytes: &[u8]) -> bool {
     let mut name = io::buffer();
     let length = os::arg(i, &mut name);
     if os::errno() != 0 {
@@ -41,7 +41,7 @@ pub(crate) fn make_file(i: usize, bytes: &[u8]) -> bool {
 }
 
 // Writes an open file anew from its start, as many bytes as it has.
-pub(crate) fn rewrite(fd: i32, name: &[u8], bytes: &[u8]) -> bool {
+pub fn rewrite(fd: i32, name: &[u8], bytes: &[u8]) -> bool {
     if libc::lseek(fd, 0, SEEK_SET) != 0 {
         os::fail(name);
         return false;

@@ -1,4 +1,4 @@
--- `files::reading::named_length` is safe: a length that is not negative fits.
+-- `host::reading::named_length` is safe: a length that is not negative fits.
 use mir.Val.{toZ, ofZ}
 use mir.Facts.{fits-natAbs, sfits-toZ, fits-ofZ}
 use mir.Syntax.{w64}
@@ -8,8 +8,8 @@ use lib.IntN.{ℤ, pos, negsuc}
 use mathlib.Core.Bool.{false}
 use mathlib.Core.Path.{_≡_, subst}
 use borrow.Author.Needs.{needs}
-use Rattle.files.proofs.reading.named_length.Statement.{statement}
-use Rattle.files.proofs.reading.named_length.Tie as tie
+use Rattle.host.proofs.reading.named_length.Statement.{statement}
+use Rattle.host.proofs.reading.named_length.Tie as tie
 
 not-negative : (z : ℤ) → ltZ z (pos 0) ≡ false → T (nonNeg z)
 not-negative (pos n) e = tt

@@ -26,7 +26,7 @@ fn status_of(fd: i32, name: &[u8], full: bool) -> Status {
 }
 
 // Reads an open file.
-pub(crate) fn read_open(fd: i32, name: &[u8], room: &mut [u8]) -> Content
+pub fn read_open(fd: i32, name: &[u8], room: &mut [u8]) -> Content
     ensures { λ r. ⌜ Counts (r .length) (now (room .exit)) ⌝ }
 {
     let length = io::read_full(fd, room);
@@ -52,7 +52,7 @@ fn read_named(name: &[u8], room: &mut [u8]) -> Content
 }
 
 // Reads the file that argument i names.
-pub(crate) fn read_file(i: usize, room: &mut [u8]) -> Content
+pub fn read_file(i: usize, room: &mut [u8]) -> Content
     ensures { λ r. ⌜ Counts (r .length) (now (room .exit)) ⌝ }
 {
     let mut name = io::buffer();
@@ -84,7 +84,7 @@ fn named_length(name: &[u8]) -> Length {
 }
 
 // How many bytes the file has that argument i names.
-pub(crate) fn file_length(i: usize) -> Length {
+pub fn file_length(i: usize) -> Length {
     let mut name = io::buffer();
     let length = os::arg(i, &mut name);
     if os::errno() != 0 {
