@@ -14,6 +14,7 @@ use host::arguments;
 use host::saying::complain;
 use host::saying::conclude;
 use host::saying::text;
+use steps::Request;
 
 fn list_one() -> Outcome {
     if !arguments::are(2, b"list FILE") {
@@ -121,22 +122,23 @@ pub fn check_plan() {
     conclude(check_one());
 }
 
-fn carry_for(n: u64) -> Outcome {
+// Of how many steps argument 3 says.
+fn carry_for(request: Request) -> Outcome {
+    let n = arguments::number(3);
+    match n {
+        Number::Value(count) => carry_file(request, count),
+        Number::Malformed => Outcome::Unreadable,
+    }
+}
+
+fn carry_one() -> Outcome {
     let asked = arguments::request(
         4,
         b"carry_out IMAGE PLANFILE N write CHUNK SIZE | discard CHUNK",
     );
     match asked {
-        Asked::For(request) => carry_file(request, n),
+        Asked::For(request) => carry_for(request),
         Asked::Malformed => Outcome::Unreadable,
-    }
-}
-
-fn carry_one() -> Outcome {
-    let n = arguments::number(3);
-    match n {
-        Number::Value(count) => carry_for(count),
-        Number::Malformed => Outcome::Unreadable,
     }
 }
 
