@@ -1,4 +1,5 @@
--- Worked cases of the report and the alarm as one table, computed: document 01's, and the edges of row 12 and of the comparisons.
+-- Worked cases of the report and the alarm as one table, computed: document 01's with document 02's figure of what is saved, and the edges of
+-- row 12 and of the comparisons.
 use Prim.Native.Nat.{ℕ, _+_, _-_, _^_}
 use mathlib.Core.Path.{_≡_, refl}
 use mathlib.Core.Bool.{Bool, true, false}
@@ -29,6 +30,11 @@ abbrev pub full : List ℕ
 unfolding fresh digits
 full = putWord (putWord (putWord (putWord (putWord (fresh (record { p = 4; c = 1; m = 2; n = 4 })) 0 0) 1 0) 2 1) 3 2) 4 3
 
+-- one of two chunks on one of its five units
+abbrev pub single : List ℕ
+unfolding fresh digits
+single = putWord (putWord (fresh (record { p = 5; c = 2; m = 3; n = 10 })) 1 0) 2 0
+
 -- ---- floats
 
 -- 2^-1074, the least above 0; negative where s is true
@@ -45,14 +51,20 @@ one = fin false 1 (pos 0)
 abbrev pub aboveOne : Float
 aboveOne = fin false (2 ^ 52 + 1) (negsuc 51)
 
--- the f64 nearest to 0.2, and to 0.8, which is a little above it
+-- the f64 nearest to 0.1, to 0.2 and to 0.8, each a little above it
+abbrev pub tenth : Float
+tenth = fin false 3602879701896397 (negsuc 54)
+
 abbrev pub fifth : Float
 fifth = fin false 3602879701896397 (negsuc 53)
 
 abbrev pub fourFifths : Float
 fourFifths = fin false 3602879701896397 (negsuc 51)
 
--- 0.75 and 0.875
+-- 0.5, 0.75 and 0.875
+abbrev pub half : Float
+half = fin false 1 (negsuc 0)
+
 abbrev pub threeQuarters : Float
 threeQuarters = fin false 3 (negsuc 1)
 
@@ -76,9 +88,13 @@ AllRight (k ∷ ks) = Right k × AllRight ks
 
 abbrev pub table : List Case
 table =
-    -- mapped, held, free, saved, held/N, saved/(C·P): 4/20 and 12/16
-    Reports third Passed 2 4 16 12 fifth threeQuarters
-    ∷ Reports (fresh small) Passed 0 0 20 16 (zero false) one
+    -- mapped, held, free, saved, held/N, saved/(mapped·P): 4/20 and 4/8, "4 saved and 0.5, where the old rule gave 12 and 0.75"
+    Reports third Passed 2 4 16 4 fifth half
+    -- "the ratio is 0.0 when nothing is mapped"
+    ∷ Reports (fresh small) Passed 0 0 20 0 (zero false) (zero false)
+    -- 1/10 and 4/5: a chunk that is not mapped counts for nothing
+    ∷ Reports single Passed 1 1 9 4 tenth fourFifths
+    -- stored raw
     ∷ Reports full Passed 1 4 0 0 one (zero false)
     -- no image
     ∷ Reports [] (Unsound Short) 0 0 0 0 (zero false) (zero false)
@@ -113,4 +129,4 @@ table =
 pub cases-right : AllRight table
 unfolding verdict trailerOutcome chunkVerdict badLink badMap doubleClaim firstClaim contested clash wellFormed leading unitsOf freeUnit freeUnits heldUnits lowestFrom all any keep member distinct disjoint joined known fitting withinLimits agreeing fresh trailerOf shapeBytes sizeBytes number digits from shapeOf wordsOf lt mul div ofInt isNan mappedCount ratio reportOf alarmAt
 cases-right =
-    (refl, (refl, (refl, (refl, (refl, (refl, (refl, (refl, (refl, (refl, (refl, (refl, (refl, (refl, (refl, (refl, (refl, (refl, (refl, (refl, (refl, (refl, (refl, tt)))))))))))))))))))))))
+    (refl, (refl, (refl, (refl, (refl, (refl, (refl, (refl, (refl, (refl, (refl, (refl, (refl, (refl, (refl, (refl, (refl, (refl, (refl, (refl, (refl, (refl, (refl, (refl, tt))))))))))))))))))))))))

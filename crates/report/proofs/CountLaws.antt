@@ -1,47 +1,126 @@
--- The report of a sound image as src/reports.rt makes it, and that no difference in it wraps.
-use Prim.Native.Nat.{ℕ, _-_, _*_, _≤_}
+-- How many units mapped chunks hold, and the report of a sound image as src/reports.rt makes it.
+use Prim.Native.Nat.{ℕ, _-_, _*_, _≤_, _<_}
 use native.Mathlib.Nat.{mul-le-mul}
 use native.Mathlib.Omega.{arith}
-use mathlib.Core.Path.{_≡_, ap}
-use mathlib.Core.List.{List}
+use mathlib.Core.Path.{_≡_, refl, sym, ap, _∙_, subst}
+use mathlib.Core.Bool.{Bool, true, false, cond}
+use mathlib.Core.List.{List, [], _∷_, _++_}
+use lib.ListN.{length, length-append}
+use lib.Dec.{eqb}
 use lib.Ieee.{Float}
-use Rattle.search.specs.Search.{from}
+use Rattle.search.specs.Search.{below, keep, member, joined}
+use Rattle.search.proofs.Members.{member-head, member-tail}
+use Rattle.search.proofs.Ranges.{member-below, length-from}
+use Rattle.search.proofs.Kept.{member-keep, keep-few}
+use Rattle.search.proofs.Joined.{length-joined}
+use Rattle.search.proofs.Bools.{contradict}
 use Rattle.layout.specs.declared.Shape.{Shape}
+use Rattle.layout.specs.Layout.{shapeOf, linkOf}
 use Rattle.layout.specs.Shaped.{Limits, Shaped}
 use Rattle.image.specs.declared.Verdict.the-variants.{Passed}
+use Rattle.image.specs.Claims.{Tested, heldIn}
+use Rattle.image.specs.Soundness.{mapped, unitsOf}
 use Rattle.image.specs.Verdicts.{verdict}
+use Rattle.image.specs.Free.{heldUnits}
+use Rattle.image.proofs.Chunks.{mapped-named, units-mapped, units-unmapped, length-units, bad-form}
 use Rattle.image.proofs.SoundLaws.{passed-tested}
-use Rattle.image.proofs.Room.{free-and-held, held-high}
+use Rattle.image.proofs.Room.{free-and-held}
 use Rattle.report.specs.declared.Report.{Report}
 use Rattle.report.specs.Counts.{mappedCount, heldCount, freeCount}
-use Rattle.report.specs.Reports.{ratio, reportOf}
+use Rattle.report.specs.Reports.{zero64, ratio, reportOf}
 
--- ---- the report of a sound image, from its shape and the number of its free units
+-- ---- joined lists
 
-module _ (s : List ℕ) (g : Shape) (h : Shaped s g) (v : verdict s ≡ Passed) (free : ℕ) (e : free ≡ freeCount s) where
-  -- no difference wraps
-  pub free-high : free ≤ g .n
-  free-high = omega (arith, free-and-held s (passed-tested s v), ap (λ (g : Shape). g .n) (h .same))
+-- what is not kept brings nothing
+joined-kept : (f : ℕ → List ℕ) (q : ℕ → Bool) (xs : List ℕ) → ((x : ℕ) → q x ≡ false → f x ≡ []) → joined f (keep q xs) ≡ joined f xs
+unfolding joined keep
+joined-kept f q [] h = refl
+joined-kept f q (x ∷ xs) h = pick (q x) refl (joined-kept f q xs h)
+  where
+    pick : (b : Bool) → q x ≡ b → joined f (keep q xs) ≡ joined f xs → joined f (cond b (x ∷ keep q xs) (keep q xs)) ≡ f x ++ joined f xs
+    pick true e i = ap (λ (us : List ℕ). f x ++ us) i
+    pick false e i = rw (h x e) i
 
-  pub held-is : g .n - free ≡ heldCount s
-  held-is = omega (arith, free-and-held s (passed-tested s v), ap (λ (g : Shape). g .n) (h .same))
+-- joined lists of at least one number each
+joined-some : (f : ℕ → List ℕ) (xs : List ℕ) → ((x : ℕ) → member x xs ≡ true → 1 ≤ length (f x)) → length xs ≤ length (joined f xs)
+unfolding joined
+joined-some f [] h = omega arith
+joined-some f (x ∷ xs) h =
+    let i = joined-some f xs (λ y m. h y (member-tail y x xs m)) in
+    let e = length-append (f x) (joined f xs) in
+    let q = h x (member-head x x xs refl) in
+    omega arith
 
-  pub held-few : g .n - free ≤ g .c * g .p
-  held-few = rw (held-is, h .same) (held-high s)
+-- ---- what mapped chunks hold
 
-  pub report-made :
-      (m : ℕ) (hr sr : Float) → m ≡ mappedCount s → hr ≡ ratio (g .n - free) (g .n)
-      → sr ≡ ratio (g .c * g .p - (g .n - free)) (g .c * g .p)
-      → _≡_ {A = Report} (record {
-        mapped = m;
-        held = g .n - free;
-        free = free;
-        saved = g .c * g .p - (g .n - free);
-        «held_ratio» = hr;
-        «saved_ratio» = sr;
-      }) (reportOf s)
-  unfolding reportOf
-  report-made m hr sr em eh es = rw (eh, es, em, held-is, e, h .same)
+module _ (s : List ℕ) where
+  -- held units are those of mapped chunks
+  held-by-mapped : joined (unitsOf s) (keep (mapped s) (below (shapeOf s .c))) ≡ heldUnits s
+  unfolding heldUnits
+  held-by-mapped = joined-kept (unitsOf s) (mapped s) (below (shapeOf s .c)) (units-unmapped s)
 
-pub raw-fits : (g : Shape) → Limits g → g .c * g .p ≤ 4096
-raw-fits g l = mul-le-mul {n₂ = 256} {m₂ = 16} (l .c-high) (l .p-high)
+  -- at most P each
+  pub held-most : heldCount s ≤ mappedCount s * shapeOf s .p
+  unfolding mappedCount
+  held-most =
+      let chunks = keep (mapped s) (below (shapeOf s .c)) in
+      subst (λ (us : List ℕ). length us ≤ length chunks * shapeOf s .p) held-by-mapped (length-joined (unitsOf s) (shapeOf s .p) chunks (length-units s))
+
+  -- in a sound image at least one each
+  pub held-least : Tested s → mappedCount s ≤ heldCount s
+  unfolding mappedCount
+  held-least t =
+      let chunks = keep (mapped s) (below (shapeOf s .c)) in
+      subst (λ (us : List ℕ). length chunks ≤ length us) held-by-mapped (joined-some (unitsOf s) chunks some)
+    where
+      one : (i : ℕ) → i < shapeOf s .c → mapped s i ≡ true → 1 ≤ length (unitsOf s i)
+      one i h m =
+          let e = ap length (units-mapped s i m) in
+          let bad = bad-form s i (linkOf s i) (length (heldIn s (linkOf s i))) refl (mapped-named s i m) refl in
+          let z : length (unitsOf s i) ≡ 0 → ⊥ = λ q. contradict (t .maps i h) (bad (sym e ∙ q)) in
+          omega arith
+
+      some : (i : ℕ) → member i (keep (mapped s) (below (shapeOf s .c))) ≡ true → 1 ≤ length (unitsOf s i)
+      some i m =
+          let k = member-keep (mapped s) i (below (shapeOf s .c)) m in
+          one i (member-below i (shapeOf s .c) (k .0)) (k .1)
+
+  pub mapped-most : mappedCount s ≤ shapeOf s .c
+  unfolding mappedCount
+  mapped-most = let a = keep-few (mapped s) (below (shapeOf s .c)) in let b = length-from 0 (shapeOf s .c) in omega arith
+
+-- the units of mapped chunks fit a u32
+pub raw-fits : (g : Shape) (m : ℕ) → Limits g → m ≤ g .c → m * g .p ≤ 4096
+raw-fits g m l h = mul-le-mul {n₂ = 256} {m₂ = 16} (omega (arith, l .c-high)) (l .p-high)
+
+-- ---- the report of a sound image, from its shape, the number of its mapped chunks and that of its free units
+
+module _ (s : List ℕ) (g : Shape) (h : Shaped s g) (m : ℕ) (em : m ≡ mappedCount s) where
+  -- the product does not wrap
+  pub raw-high : m * g .p ≤ 4096
+  raw-high = raw-fits g m (h .limits) (rw (em, h .same) (mapped-most s))
+
+  module _ (v : verdict s ≡ Passed) (free : ℕ) (e : free ≡ freeCount s) where
+    -- no difference wraps
+    pub free-high : free ≤ g .n
+    free-high = omega (arith, free-and-held s (passed-tested s v), ap (λ (g : Shape). g .n) (h .same))
+
+    pub held-is : g .n - free ≡ heldCount s
+    held-is = omega (arith, free-and-held s (passed-tested s v), ap (λ (g : Shape). g .n) (h .same))
+
+    pub held-few : g .n - free ≤ m * g .p
+    held-few = rw (held-is, em, h .same) (held-most s)
+
+    pub report-made :
+        (hr sr : Float) → hr ≡ ratio (g .n - free) (g .n)
+        → sr ≡ cond (eqb m 0) zero64 (ratio (m * g .p - (g .n - free)) (m * g .p))
+        → _≡_ {A = Report} (record {
+          mapped = m;
+          held = g .n - free;
+          free = free;
+          saved = m * g .p - (g .n - free);
+          «held_ratio» = hr;
+          «saved_ratio» = sr;
+        }) (reportOf s)
+    unfolding reportOf
+    report-made hr sr eh es = rw (eh, es, em, held-is, e, h .same)

@@ -1,6 +1,7 @@
 -- A division of two counts and a product with a count are rounded once: the count itself is exact as an f64.
 use Prim.Native.Nat.{ℕ, suc, _+_, _*_, _^_, _≤_, _<_}
-use native.Mathlib.Nat.{mul-assoc, mul-comm, mul-left-comm, mul-one, mul-pos, lt-irrefl, zero-mul, one-mul, eq-of-mul-eq-mul-right}
+use native.Mathlib.Nat.{mul-assoc, mul-comm, mul-left-comm, mul-one, mul-pos, lt-irrefl, le-trans, zero-mul, one-mul, eq-of-mul-eq-mul-right}
+use native.Mathlib.Omega.{arith}
 use mathlib.Core.Path.{_≡_, refl, sym, ap, _∙_, subst}
 use mathlib.Core.Bool.{Bool, true, false, true≢false}
 use borrow.Author.Needs.{zero≤}
@@ -8,14 +9,15 @@ use borrow.Author.Tests.{ne-eqb, le-ltb}
 use lib.Dec.{T, lit<}
 use lib.IntN.{pos}
 use lib.Pow.{pow-pos}
-use lib.Ieee.{Float, nan, inf, fin, Format, binary64, low, emax, unlike, up, down, round, div, mul, ofInt, lt}
+use lib.Ieee.{Float, nan, inf, fin, Format, binary64, low, emax, unlike, up, down, round, div, mul, ofInt, lt, le}
 use lib.Ieee.Fits.{down-pos}
 use lib.Ieee.Exact.{HasValue, round-exact}
 use lib.Ieee.Back.{round-whole}
 use lib.Ieee.Scale.{round-same}
+use lib.Ieee.Order.{round-mono}
 use lib.Ieee.Positive.{num, den, den-pos, positive, own-value, positive-of-value, mul-at}
-use Rattle.report.specs.Reports.{ratio}
-use Rattle.report.specs.Alarms.{product}
+use Rattle.report.specs.Reports.{zero64, ratio}
+use Rattle.report.specs.Alarms.{one64, product}
 
 -- a float that is above 0 has a significand
 nonzero : (n b u w : ℕ) → 0 < b → 0 < w → n * u * 1 ≡ b * w → n ≡ 0 → ⊥
@@ -52,6 +54,22 @@ count-exact a h = round-whole binary64 false a h
 pub ratio-rounds : (a b : ℕ) → a ≤ 2 ^ 53 → 0 < b → b ≤ 2 ^ 53 → ratio a b ≡ round binary64 false a b
 unfolding ratio
 ratio-rounds a b ha B hb = div-whole binary64 (ofInt binary64 (pos a)) (ofInt binary64 (pos b)) a b B (count-exact a ha) (count-exact b hb)
+
+-- a number from 0.0 to 1.0: not a NaN, not negative, not above 1
+abbrev pub Share : Float → Type 0
+Share x = T (le zero64 x) × T (le x one64)
+
+-- a ratio to no less is such a number
+pub ratio-share : (a b : ℕ) → a ≤ b → 0 < b → b ≤ 2 ^ 53 → Share (ratio a b)
+unfolding round
+ratio-share a b h B hb =
+    rw (ratio-rounds a b (le-trans h hb) B hb)
+    (round-mono binary64 0 1 a b (lit< tt) B (omega arith), round-mono binary64 a b 1 1 B (lit< tt) (omega arith))
+
+-- and of nothing it is 0.0
+pub ratio-none : (b : ℕ) → 0 < b → b ≤ 2 ^ 53 → ratio 0 b ≡ zero64
+unfolding round
+ratio-none b B hb = ratio-rounds 0 b zero≤ B hb ∙ round-same binary64 false 0 b 0 1 B (lit< tt) (omega arith)
 
 -- the product is the f64 nearest to x · n, for a finite x above 0, which is the fraction num x / den x
 pub product-rounds : (x : Float) (n : ℕ) → T (positive x) → 0 < n → n ≤ 2 ^ 53 → product x n ≡ round binary64 false (num x * n) (den x)

@@ -1,5 +1,6 @@
--- The report's counts, of a sound image: "mapped chunks, held units, free units, saved units (C·P less held)". What counts as saved stands in
--- rawCount and savedCount here and in savedRatio (Reports.antt), and nowhere else.
+-- The report's counts, of a sound image: "mapped chunks, held units, free units, saved units". What counts as saved is not document 01's "C·P
+-- less held" but its correction, document 02's request 1: "Saved units must be counted over mapped chunks only". It stands in rawCount and
+-- savedCount here and in savedRatio (Reports.antt), and nowhere else.
 use Prim.Native.Nat.{ℕ, _-_, _*_}
 use mathlib.Core.List.{List}
 use lib.ListN.{length}
@@ -20,10 +21,10 @@ heldCount s = length (heldUnits s)
 abbrev pub freeCount : List ℕ → ℕ
 freeCount s = length (freeUnits s)
 
--- "C·P": the units that all chunks would take, stored raw
+-- "mapped chunks times P": the units that they would take, stored raw
 abbrev pub rawCount : List ℕ → ℕ
-rawCount s = shapeOf s .c * shapeOf s .p
+rawCount s = mappedCount s * shapeOf s .p
 
--- "saved units (C·P less held)"
+-- "mapped chunks times P, less held units"
 abbrev pub savedCount : List ℕ → ℕ
 savedCount s = rawCount s - heldCount s

@@ -1,7 +1,8 @@
 -- The report: "one record of four counts and two ratios".
 use Prim.Native.Nat.{ℕ}
-use mathlib.Core.Bool.{false}
+use mathlib.Core.Bool.{false, cond}
 use mathlib.Core.List.{List}
+use lib.Dec.{eqb}
 use lib.IntN.{pos}
 use lib.Ieee.{Float, fin, binary64, div, ofInt}
 use Rattle.layout.specs.declared.Refusal.{Refusal}
@@ -25,9 +26,9 @@ ratio a b = div binary64 (ofInt binary64 (pos a)) (ofInt binary64 (pos b))
 abbrev pub heldRatio : List ℕ → Float
 heldRatio s = ratio (heldCount s) (shapeOf s .n)
 
--- "saved/(C·P)"
+-- "The ratio's divisor becomes mapped times P, and the ratio is 0.0 when nothing is mapped" (document 02, request 1)
 abbrev pub savedRatio : List ℕ → Float
-savedRatio s = ratio (savedCount s) (rawCount s)
+savedRatio s = cond (eqb (mappedCount s) 0) zero64 (ratio (savedCount s) (rawCount s))
 
 -- of a sound image
 unfoldable pub reportOf : List ℕ → Report

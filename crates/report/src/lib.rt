@@ -6,7 +6,8 @@ pub mod reports;
 use image::Verdict;
 use layout::Refusal;
 
-// Mapped chunks, held, free and saved units, held / N and saved / (C * P).
+// Mapped chunks, held, free and saved units, held / N and saved / (mapped * P). Saved are mapped * P units less held; the last ratio is 0.0 when
+// nothing is mapped.
 pub struct Report {
     pub mapped: u32,
     pub held: u32,

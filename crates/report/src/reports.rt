@@ -8,17 +8,29 @@ use image::load::load;
 use layout::Refusal;
 use layout::Shape;
 ghost use mathlib.Core.Path.{_≡_};
+ghost use mathlib.Core.Bool.{cond};
+ghost use lib.Dec.{eqb};
 ghost use Rattle.layout.specs.Shaped.{Shaped};
 ghost use Rattle.image.specs.Verdicts.{verdict};
 ghost use Rattle.report.specs.Counts.{freeCount};
 ghost use Rattle.report.specs.Reports;
-ghost use Rattle.report.specs.Reports.{reportOf, passedReport, refusedReport, reportAnswer};
+ghost use Rattle.report.specs.Reports.{zero64, reportOf, passedReport, refusedReport, reportAnswer};
 
 // One rounded division of two counts.
 fn ratio(a: u32, b: u32) -> f64
     ensures { λ r. ⌜ r ≡ Reports.ratio a b ⌝ }
 {
     a as f64 / b as f64
+}
+
+// Saved units by those of the mapped chunks stored raw; 0.0 when nothing is mapped.
+fn saved_ratio(mapped: u32, saved: u32, raw: u32) -> f64
+    ensures { λ r. ⌜ r ≡ cond (eqb mapped 0) zero64 (Reports.ratio saved raw) ⌝ }
+{
+    if mapped == 0 {
+        return 0.0;
+    }
+    ratio(saved, raw)
 }
 
 // The report on a sound image of shape g, of whose units `free` are free.
@@ -29,12 +41,12 @@ fn report_in(image: &[u8], g: Shape, free: u32) -> Report
     ensures { λ r. ⌜ r ≡ reportOf (now (image .entry)) ⌝ }
 {
     let n = g.n;
-    let raw = g.c * g.p;
     let mapped = mapped_count(image, g);
+    let raw = mapped * g.p;
     let held = n - free;
     let saved = raw - held;
     let held_ratio = ratio(held, n);
-    let saved_ratio = ratio(saved, raw);
+    let saved_ratio = saved_ratio(mapped, saved, raw);
     Report {
         mapped,
         held,

@@ -2,41 +2,47 @@
 use native.Mathlib.Omega.{arith}
 use denote.Ref.{now}
 use borrow.Author.Needs.{needs}
-use Rattle.report.proofs.CountLaws.{raw-fits, free-high, held-few, report-made}
+use Rattle.report.proofs.CountLaws.{raw-high, free-high, held-few, report-made}
 use Rattle.report.proofs.reports.report_in.Statement.{statement}
 use Rattle.report.proofs.reports.report_in.Tie as tie
-
-mul-raw : tie.Need-mul-raw
-mul-raw c = let a = c .before .before in omega (arith, raw-fits (a .args .g) (a .pre .0 .limits))
 
 mapped-count-requires : tie.Need-mapped-count-requires
 mapped-count-requires c κs = search needs
 
+mul-raw : tie.Need-mul-raw
+mul-raw c =
+    let a = c .before .before .before in
+    omega (arith, raw-high (now (a .args .image)) (a .args .g) (a .pre .0) _ (c .before .mapped-count .ensures))
+
 sub-held : tie.Need-sub-held
-sub-held c = let a = c .before .before .before in free-high (now (a .args .image)) (a .args .g) (a .pre .0) (a .pre .1 .0) (a .args .free) (a .pre .1 .1)
+sub-held c =
+    let a = c .before .before .before in
+    free-high (now (a .args .image)) (a .args .g) (a .pre .0) _ (c .before .mapped-count .ensures) (a .pre .1 .0) (a .args .free) (a .pre .1 .1)
 
 sub-saved : tie.Need-sub-saved
-sub-saved c = let a = c .before .before .before in held-few (now (a .args .image)) (a .args .g) (a .pre .0) (a .pre .1 .0) (a .args .free) (a .pre .1 .1)
+sub-saved c =
+    let a = c .before .before .before in
+    held-few (now (a .args .image)) (a .args .g) (a .pre .0) _ (c .before .mapped-count .ensures) (a .pre .1 .0) (a .args .free) (a .pre .1 .1)
 
 ratio-requires : tie.Need-ratio-requires
 ratio-requires c κs = search needs
 
-ratio-requires-2 : tie.Need-ratio-requires-2
-ratio-requires-2 c κs = search needs
+saved-ratio-requires : tie.Need-saved-ratio-requires
+saved-ratio-requires c κs = search needs
 
 returns : tie.Need-returns
 returns c =
     let a = c .before .before .before .before .before in
-    report-made (now (a .args .image)) (a .args .g) (a .pre .0) (a .pre .1 .0) (a .args .free) (a .pre .1 .1) _ _ _ (c .before .before .mapped-count .ensures) (c .before .ratio .ensures) (c .ratio2 .ensures)
+    report-made (now (a .args .image)) (a .args .g) (a .pre .0) _ (c .before .before .before .mapped-count .ensures) (a .pre .1 .0) (a .args .free) (a .pre .1 .1) _ _ (c .before .ratio .ensures) (c .saved-ratio .ensures)
 
 pub report-in-spec : {M : Type 1} → statement M
 report-in-spec =
     tie.close
     (tie.spec
-    mul-raw
     mapped-count-requires
+    mul-raw
     sub-held
     sub-saved
     ratio-requires
-    ratio-requires-2
+    saved-ratio-requires
     returns)
