@@ -91,9 +91,9 @@ typedef struct {
     uint64_t mapped;    /* mapped chunks */
     uint64_t held;      /* units that named maps hold */
     uint64_t free;      /* all other units */
-    uint64_t saved;     /* C * P less held */
+    uint64_t saved;     /* mapped * P less held: what the mapped chunks would take more, stored raw */
     double held_ratio;  /* held / N */
-    double saved_ratio; /* saved / (C * P) */
+    double saved_ratio; /* saved / (mapped * P); 0.0 when nothing is mapped */
 } sumbilak_report_answer;
 
 /* Writes the image of a fresh volume: p units in a chunk (2 to 16), c chunks (1 to 256), m chunk maps (c+1 to c+32), n backing units (p to p*m). Any

@@ -67,6 +67,10 @@ static void worked_cases(void)
     is("free units 0 to 19", loaded[4], 0xFFFFF);
     is("free maps 0 to 4", loaded[76], 0x1F);
     is("80 words", sumbilak_load(image, IMAGE, loaded, 80).place, 648);
+    sumbilak_report_answer r = sumbilak_report(image, IMAGE);
+    is("a fresh volume has nothing mapped", r.mapped + r.held, 0);
+    is("and saves nothing", r.saved, 0);
+    is("at 0.0", r.saved_ratio == 0.0 && !signbit(r.saved_ratio), 1);
 
     is("nine steps", write_chunk(image, 2, 6144, 0), 9);
     is("chunk 2 on units 0, 1", units(image, 2), 0x0001);
@@ -84,13 +88,13 @@ static void worked_cases(void)
     is("0.75 is silent", sumbilak_alarm_fraction(image, IMAGE, 0.75).value, 0);
     is("0.875 sounds", sumbilak_alarm_fraction(image, IMAGE, 0.875).value, 1);
     is("not a number", sumbilak_alarm_fraction(image, IMAGE, NAN).number, 12);
-    sumbilak_report_answer r = sumbilak_report(image, IMAGE);
+    r = sumbilak_report(image, IMAGE);
     is("mapped", r.mapped, 2);
     is("held", r.held, 4);
     is("free", r.free, 16);
-    is("saved", r.saved, 12);
+    is("saved", r.saved, 4);
     is("held / N", r.held_ratio == 4.0 / 20.0, 1);
-    is("saved / (C * P)", r.saved_ratio == 12.0 / 16.0, 1);
+    is("saved / (mapped * P)", r.saved_ratio == 4.0 / 8.0, 1);
 
     static const uint64_t sizes[][2] = {{1, 1}, {4096, 1}, {4097, 2}, {16384, 4}, {0, 8}, {16385, 8}};
     for (size_t i = 0; i < 6; i++) {

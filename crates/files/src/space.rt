@@ -21,7 +21,7 @@ ghost use Rattle.files.specs.Ratios.{tenThousandths};
 
 // A count's share of itself and a rest, in ten-thousandths, to the nearest one, a half upwards. The report's own ratios are f64, and exact to 53 bits; to
 // print one takes a further product, which rounds again and falls below the half in one of forty halves. So the digits come from the exact counts, of which
-// the ratios are the quotients: N is held and free units, C·P is saved and held ones.
+// the ratios are the quotients: N is held and free units, mapped chunks times P is saved and held ones. Of nothing the share is 0.
 fn ten_thousandths(count: u32, rest: u32) -> u64
     ensures { λ r. ⌜ r ≡ tenThousandths count rest ⌝ }
 {
