@@ -6,8 +6,9 @@
 //! * [`ffi`] is the proved library's C interface.
 //! * [`rng`] and [`inputs`] make reproducible test inputs; [`settings`] are a run's.
 //!
-//! "01" in the comments is the paper with the exact rules, "Decision n" an
-//! entry of the list of how its open places are read.
+//! "01" in the comments is the paper with the exact rules, "02" the changes
+//! requested since, "Decision n" an entry of the list of how open places of 01
+//! are read.
 
 pub mod ffi;
 pub mod inputs;

@@ -5,7 +5,8 @@ use super::refusals::BAD_ALARM;
 use super::{Answer, Refusal};
 
 /// "one record of four counts and two ratios: mapped chunks, held units, free
-/// units, saved units (C·P less held), held/N, and saved/(C·P)" (01).
+/// units, saved units" (01), held/N, and the saved units' part of mapped·P
+/// (02, request 1).
 #[derive(Clone, Copy, Debug, PartialEq)]
 pub struct Report {
     pub mapped: u64,
@@ -18,21 +19,36 @@ pub struct Report {
 
 /// The report, "the ratios as f64 from exact counts and one rounded division"
 /// (01). Every count is far below 2^53, so it converts exactly.
+///
+/// "Saved units must be counted over mapped chunks only: mapped chunks times
+/// P, less held units. The ratio's divisor becomes mapped times P, and the
+/// ratio is 0.0 when nothing is mapped. This corrects 01's report section."
+/// (02, request 1) 01 counted over all C chunks. "Held/N stays."
 pub fn report(image: &[u8]) -> Answer<Report> {
     let volume = Volume::open(image)?;
     let n = volume.geometry.n as u64;
-    let volume_units = (volume.geometry.c * volume.geometry.p) as u64;
+    let mapped = volume.mapped_chunks();
     let free = volume.free_units.count();
+    // The free units are some of the N.
     let held = n - free;
-    // A chunk holds at most P units, so all hold at most C·P.
-    let saved = volume_units - held;
+    // What the mapped chunks would hold if all were stored raw.
+    let raw = mapped * volume.geometry.p as u64;
+    // "Held units are those in named maps" (01). A mapped chunk names one map
+    // and a map has P words, so there are at most mapped·P of them.
+    let saved = raw - held;
     Ok(Report {
-        mapped: volume.mapped_chunks(),
+        mapped,
         held,
         free,
         saved,
         held_ratio: held as f64 / n as f64,
-        saved_ratio: saved as f64 / volume_units as f64,
+        // The divisor is 0 just where nothing is mapped. Mapped chunks that
+        // save nothing give +0.0 too.
+        saved_ratio: if mapped == 0 {
+            0.0
+        } else {
+            saved as f64 / raw as f64
+        },
     })
 }
 

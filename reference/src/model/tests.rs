@@ -1,4 +1,5 @@
-//! 01's worked cases, [P] and not, and what the decisions fix.
+//! 01's worked cases, [P] and not, with 02's correction of the report, and what
+//! the decisions fix.
 
 use super::*;
 
@@ -66,6 +67,13 @@ fn write(image: &mut [u8], chunk: u64, size: u64) {
     let plan = planned(image, chunk, size);
     let steps = (plan.len() / STEP) as u64;
     carry_write(image, chunk, size, &plan, steps).expect("the planner's plan");
+}
+
+fn discard(image: &mut [u8], chunk: u64) {
+    let mut out = [0; STEP * 2];
+    let steps = plan_discard(image, chunk, &mut out).expect("a plan");
+    let plan = &out[..STEP * steps as usize];
+    carry_discard(image, chunk, plan, steps).expect("the planner's plan");
 }
 
 fn held_units(image: &[u8], chunk: u64) -> Vec<u64> {
@@ -368,6 +376,7 @@ fn the_alarm_of_the_example() {
     }
 }
 
+/// "After 01's third write it is 4 saved and 0.5" (02, request 1).
 #[test]
 fn the_report_of_the_example() {
     assert_eq!(
@@ -376,13 +385,78 @@ fn the_report_of_the_example() {
             mapped: 2,
             held: 4,
             free: 16,
-            saved: 12,
+            saved: 4,
             held_ratio: 0.2,
-            saved_ratio: 0.75,
+            saved_ratio: 0.5,
         })
     );
-    let figures = report(&small()).unwrap();
-    assert_eq!((figures.held_ratio, figures.saved_ratio), (0.0, 1.0));
+}
+
+/// "the ratio is 0.0 when nothing is mapped" (02, request 1): +0.0, bit by bit.
+#[test]
+fn nothing_mapped_saves_nothing() {
+    let nothing = |image: &[u8]| {
+        let figures = report(image).unwrap();
+        let counts = [figures.mapped, figures.held, figures.free, figures.saved];
+        assert_eq!(counts, [0, 0, 20, 0]);
+        assert_eq!(figures.held_ratio.to_bits(), 0);
+        assert_eq!(figures.saved_ratio.to_bits(), 0);
+    };
+    nothing(&small());
+    // All chunks written and discarded again: the dead maps still name units.
+    let mut image = small();
+    for chunk in 0..4 {
+        write(&mut image, chunk, 6144);
+    }
+    for chunk in 0..4 {
+        discard(&mut image, chunk);
+    }
+    assert_eq!(get(&image, 4), 0);
+    nothing(&image);
+}
+
+/// One unit of P is the best that a chunk can do. The chunks that are not
+/// mapped, few or many, change nothing.
+#[test]
+fn a_chunk_on_one_unit_saves_the_others() {
+    for p in 2..=16 {
+        for c in [1, 2, 256] {
+            let mut image = fresh(p, c, c + 1, p * c);
+            write(&mut image, c - 1, 1);
+            let figures = report(&image).unwrap();
+            assert_eq!((figures.mapped, figures.held), (1, 1));
+            assert_eq!(figures.saved, p - 1);
+            assert_eq!(figures.saved_ratio, (p - 1) as f64 / p as f64);
+        }
+    }
+}
+
+#[test]
+fn raw_chunks_save_nothing() {
+    let mut image = small();
+    for chunk in 0..4 {
+        write(&mut image, chunk, 16_384);
+        let figures = report(&image).unwrap();
+        assert_eq!((figures.mapped, figures.held), (chunk + 1, 4 * chunk + 4));
+        assert_eq!(figures.saved, 0);
+        assert_eq!(figures.saved_ratio.to_bits(), 0);
+    }
+}
+
+/// "one rounded division" (01): the nearest f64 to 1/3 is below it, that to
+/// 1/5 above. The rest of a whole, 1 less held/(mapped·P), is rounded twice and
+/// gives another number for both.
+#[test]
+fn a_ratio_that_is_not_exact_is_rounded_once() {
+    for (p, bits) in [(3, 0x3FD5_5555_5555_5555), (5, 0x3FC9_9999_9999_999A)] {
+        let mut image = fresh(p, 2, 3, 2 * p);
+        write(&mut image, 0, (p - 1) * UNIT);
+        let figures = report(&image).unwrap();
+        assert_eq!((figures.mapped, figures.saved), (1, 1));
+        assert_eq!(figures.saved_ratio.to_bits(), bits);
+        let rest = 1.0 - figures.held as f64 / p as f64;
+        assert_ne!(rest.to_bits(), bits);
+    }
 }
 
 /// The lines of 01's listing, from the model's answers.
