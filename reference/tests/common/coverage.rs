@@ -13,7 +13,7 @@ pub struct Coverage {
     /// Answers by number, 0 to 12.
     pub answers: [u64; 13],
     /// Good answers by kind, in the order of [`kinds`].
-    pub kinds: [u64; 3],
+    pub kinds: [u64; 7],
     /// Place of refusal 11, rules 1 to 5.
     pub rules: [u64; 6],
     /// Inputs in which both rows held.
@@ -71,7 +71,8 @@ pub fn possible_pairs(entry: Entry) -> Vec<(usize, usize)> {
         .collect()
 }
 
-/// The kinds of good answers that are told apart.
+/// The kinds of good answers that are told apart. An answer is of one kind; a
+/// report may be of several, see [`report_kinds`].
 fn kinds(entry: Entry) -> &'static [&'static str] {
     match entry {
         Entry::Format | Entry::Load => &["answered"],
@@ -83,12 +84,20 @@ fn kinds(entry: Entry) -> &'static [&'static str] {
         Entry::CheckWrite | Entry::CheckDiscard => &["the planner's plan", "another"],
         Entry::CarryWrite | Entry::CarryDiscard => &["no step", "some", "all"],
         Entry::AlarmCount | Entry::AlarmFraction => &["silent", "sounds"],
-        Entry::Report => &["nothing held", "some", "nothing free"],
+        Entry::Report => &[
+            "nothing mapped",
+            "some chunks",
+            "all chunks",
+            "nothing free",
+            "mapped but nothing saved",
+            "ratio rounded",
+            "01's rule differs",
+        ],
     }
 }
 
 /// Which of its entry point's kinds a good answer is.
-fn kind(case: &Case, answer: &[u64; 9]) -> usize {
+fn kinds_of(case: &Case, answer: &[u64; 9]) -> Vec<usize> {
     let [.., value, extent, _, _, _, _] = *answer;
     let units_per_chunk = || model::load(&case.image).map_or(0, |loaded| loaded.p);
     let planned = |plan: &mut dyn FnMut(&mut [u8]) -> model::Answer<u64>| {
@@ -101,7 +110,8 @@ fn kind(case: &Case, answer: &[u64; 9]) -> usize {
         (0, 1..) => 0,
         (n, whole) => 1 + usize::from(n == whole),
     };
-    match case.call {
+    let kind = match case.call {
+        Call::Report => return report_kinds(case, answer),
         Call::Format { .. } | Call::Load => 0,
         Call::Split { .. } => value.min(3) as usize - 1,
         Call::Access { .. } => value as usize,
@@ -117,13 +127,30 @@ fn kind(case: &Case, answer: &[u64; 9]) -> usize {
         }
         Call::CarryWrite { n, .. } | Call::CarryDiscard { n, .. } => carried(n),
         Call::AlarmCount { .. } | Call::AlarmFraction { .. } => value as usize,
-        // After the refusal's three fields come mapped, held, free.
-        Call::Report => match (answer[4], answer[5]) {
-            (0, _) => 0,
-            (_, 0) => 2,
-            _ => 1,
-        },
-    }
+    };
+    vec![kind]
+}
+
+/// Every kind that a report is. Saved units are "counted over mapped chunks
+/// only" (02, request 1), so it matters how many chunks are mapped, whether all
+/// of those are raw, whether f64 holds their ratio, and whether 01's rule, C·P
+/// less held, would give another count.
+fn report_kinds(case: &Case, answer: &[u64; 9]) -> Vec<usize> {
+    let [_, _, _, mapped, held, free, saved, _, _] = *answer;
+    let loaded = model::load(&case.image).expect("a report of a sound image");
+    let raw = mapped * loaded.p;
+    let kinds = [
+        mapped == 0,
+        0 < mapped && mapped < loaded.c,
+        mapped == loaded.c,
+        free == 0,
+        mapped > 0 && saved == 0,
+        // The divisor is at most 2^12, so a ratio that f64 holds exactly is a
+        // whole number of parts of 2^12.
+        !(saved << 12).is_multiple_of(raw),
+        loaded.c * loaded.p - held != saved,
+    ];
+    (0..kinds.len()).filter(|&kind| kinds[kind]).collect()
 }
 
 pub fn has_rules(entry: Entry) -> bool {
@@ -141,7 +168,7 @@ impl Coverage {
             entry,
             inputs: 0,
             answers: [0; 13],
-            kinds: [0; 3],
+            kinds: [0; 7],
             rules: [0; 6],
             pairs: [[0; 13]; 13],
             rule_pairs: [[0; 6]; 6],
@@ -152,7 +179,9 @@ impl Coverage {
         self.inputs += 1;
         self.answers[answer[0] as usize] += 1;
         if answer[0] == 0 {
-            self.kinds[kind(case, answer)] += 1;
+            for kind in kinds_of(case, answer) {
+                self.kinds[kind] += 1;
+            }
         }
         let rows = verdict.rows();
         for (i, &a) in rows.iter().enumerate() {
