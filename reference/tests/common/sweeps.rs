@@ -1,5 +1,5 @@
 //! Small scopes gone through completely: every case of a kind on the worked
-//! example of 01, without chance.
+//! example of 01 or on small volumes, without chance.
 
 use sumbilak_reference::inputs::{self, Fields, Shape, FENCE, TWO_32, X, X32};
 use sumbilak_reference::model;
@@ -17,7 +17,7 @@ const SHAPE: Shape = Shape {
 pub type Sweep = fn(&mut dyn FnMut(Case));
 
 /// Every sweep, by name.
-pub const ALL: [(&str, Sweep); 10] = [
+pub const ALL: [(&str, Sweep); 11] = [
     ("format and load, around every limit", limits),
     ("load, every value of every byte", load_bytes),
     ("load, two words of the tables", load_words),
@@ -28,6 +28,7 @@ pub const ALL: [(&str, Sweep); 10] = [
     ("check_discard, every short plan", discards),
     ("carry_write, every step count", carries),
     ("plan_write and plan_discard, every output", outputs),
+    ("report, every number of units of each chunk", reports),
 ];
 
 fn case(call: Call, image: Vec<u8>) -> Case {
@@ -312,4 +313,48 @@ fn outputs(give: &mut dyn FnMut(Case)) {
             });
         }
     }
+}
+
+/// Small volumes with each chunk on none to P units, in every way that N units
+/// allow. The maps that no chunk names hold X, or name a unit as well.
+fn reports(give: &mut dyn FnMut(Case)) {
+    for p in 2..=5u64 {
+        for c in 1..=4 {
+            let m = c + 1;
+            for n in [p, c * p, m * p] {
+                let shape = Shape { p, c, m, n };
+                // The digits of a number to base P+1 are the chunks' units.
+                for number in 0..(p + 1).pow(c as u32) {
+                    let digit = |chunk: u64| number / (p + 1).pow(chunk as u32) % (p + 1);
+                    let units: Vec<u64> = (0..c).map(digit).collect();
+                    if units.iter().sum::<u64>() <= n {
+                        give(case(Call::Report, volume(&shape, &units, X)));
+                        give(case(Call::Report, volume(&shape, &units, 0)));
+                    }
+                }
+            }
+        }
+    }
+}
+
+/// Each chunk on so many units, rising, by a map of its own, falling; `dead` in
+/// every word of the other maps.
+fn volume(shape: &Shape, units: &[u64], dead: u64) -> Vec<u8> {
+    let mut image = inputs::fresh(shape);
+    for map in 0..shape.m {
+        for word in 0..shape.p {
+            inputs::put_word(&mut image, shape.word_at(map, word), dead);
+        }
+    }
+    let mut next = 0;
+    for (chunk, &count) in (0..).zip(units).filter(|&(_, &count)| count > 0) {
+        let map = shape.m - 1 - chunk;
+        inputs::put_entry(&mut image, chunk, map);
+        for word in 0..shape.p {
+            let unit = if word < count { next + word } else { X };
+            inputs::put_word(&mut image, shape.word_at(map, word), unit);
+        }
+        next += count;
+    }
+    image
 }
