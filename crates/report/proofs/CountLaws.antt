@@ -6,32 +6,31 @@ use mathlib.Core.Path.{_≡_, refl, sym, ap, _∙_, subst}
 use mathlib.Core.Bool.{Bool, true, false, cond}
 use mathlib.Core.List.{List, [], _∷_, _++_}
 use lib.ListN.{length, length-append}
-use lib.Dec.{eqb}
 use lib.Ieee.{Float}
 use Rattle.search.specs.Search.{below, keep, member, joined}
 use Rattle.search.proofs.Members.{member-head, member-tail}
 use Rattle.search.proofs.Ranges.{member-below, length-from}
 use Rattle.search.proofs.Kept.{member-keep, keep-few}
 use Rattle.search.proofs.Joined.{length-joined}
-use Rattle.search.proofs.Bools.{contradict}
 use Rattle.layout.specs.declared.Shape.{Shape}
-use Rattle.layout.specs.Layout.{shapeOf, linkOf}
+use Rattle.layout.specs.Layout.{isUnit, shapeOf}
 use Rattle.layout.specs.Shaped.{Limits, Shaped}
 use Rattle.image.specs.declared.Verdict.the-variants.{Passed}
-use Rattle.image.specs.Claims.{Tested, heldIn}
-use Rattle.image.specs.Soundness.{mapped, unitsOf}
+use Rattle.image.specs.Claims.{Tested}
+use Rattle.image.specs.Soundness.{mapped, namedWords, unitsOf}
 use Rattle.image.specs.Verdicts.{verdict}
 use Rattle.image.specs.Free.{heldUnits}
-use Rattle.image.proofs.Chunks.{mapped-named, units-mapped, units-unmapped, length-units, bad-form}
+use Rattle.image.proofs.Chunks.{named-map, mapped-named, units-mapped, units-unmapped, length-units}
+use Rattle.image.proofs.Leading.{form-of}
 use Rattle.image.proofs.SoundLaws.{passed-tested}
 use Rattle.image.proofs.Room.{free-and-held}
 use Rattle.report.specs.declared.Report.{Report}
 use Rattle.report.specs.Counts.{mappedCount, heldCount, freeCount}
-use Rattle.report.specs.Reports.{zero64, ratio, reportOf}
+use Rattle.report.specs.Reports.{ratio, ratioIfMapped, reportOf}
 
 -- ---- joined lists
 
--- what is not kept brings nothing
+-- numbers that are not kept contribute nothing
 joined-kept : (f : ℕ → List ℕ) (q : ℕ → Bool) (xs : List ℕ) → ((x : ℕ) → q x ≡ false → f x ≡ []) → joined f (keep q xs) ≡ joined f xs
 unfolding joined keep
 joined-kept f q [] h = refl
@@ -73,17 +72,13 @@ module _ (s : List ℕ) where
       let chunks = keep (mapped s) (below (shapeOf s .c)) in
       subst (λ (us : List ℕ). length chunks ≤ length us) held-by-mapped (joined-some (unitsOf s) chunks some)
     where
-      one : (i : ℕ) → i < shapeOf s .c → mapped s i ≡ true → 1 ≤ length (unitsOf s i)
-      one i h m =
-          let e = ap length (units-mapped s i m) in
-          let bad = bad-form s i (linkOf s i) (length (heldIn s (linkOf s i))) refl (mapped-named s i m) refl in
-          let z : length (unitsOf s i) ≡ 0 → ⊥ = λ q. contradict (t .maps i h) (bad (sym e ∙ q)) in
-          omega arith
-
       some : (i : ℕ) → member i (keep (mapped s) (below (shapeOf s .c))) ≡ true → 1 ≤ length (unitsOf s i)
-      some i m =
-          let k = member-keep (mapped s) i (below (shapeOf s .c)) m in
-          one i (member-below i (shapeOf s .c) (k .0)) (k .1)
+      some i k =
+          let g = shapeOf s in
+          let b = member-keep (mapped s) i (below (g .c)) k in
+          let good = t .maps i (member-below i (g .c) (b .0)) in
+          let f = form-of (isUnit g) (namedWords g s i) (sym (named-map s i (mapped-named s i (b .1))) ∙ good) in
+          omega (arith, ap length (units-mapped s i (b .1)), f .some)
 
   pub mapped-most : mappedCount s ≤ shapeOf s .c
   unfolding mappedCount
@@ -93,34 +88,35 @@ module _ (s : List ℕ) where
 pub raw-fits : (g : Shape) (m : ℕ) → Limits g → m ≤ g .c → m * g .p ≤ 4096
 raw-fits g m l h = mul-le-mul {n₂ = 256} {m₂ = 16} (omega (arith, l .c-high)) (l .p-high)
 
--- ---- the report of a sound image, from its shape, the number of its mapped chunks and that of its free units
+-- ---- the report of a sound image, from its shape, the number of its free units and that of its mapped chunks
 
-module _ (s : List ℕ) (g : Shape) (h : Shaped s g) (m : ℕ) (em : m ≡ mappedCount s) where
+module _ (s : List ℕ) (g : Shape) (h : Shaped s g) where
   -- the product does not wrap
-  pub raw-high : m * g .p ≤ 4096
-  raw-high = raw-fits g m (h .limits) (rw (em, h .same) (mapped-most s))
+  pub raw-high : (m : ℕ) → m ≡ mappedCount s → m * g .p ≤ 4096
+  raw-high m em = raw-fits g m (h .limits) (rw (em, h .same) (mapped-most s))
 
   module _ (v : verdict s ≡ Passed) (free : ℕ) (e : free ≡ freeCount s) where
     -- no difference wraps
     pub free-high : free ≤ g .n
     free-high = omega (arith, free-and-held s (passed-tested s v), ap (λ (g : Shape). g .n) (h .same))
 
-    pub held-is : g .n - free ≡ heldCount s
+    held-is : g .n - free ≡ heldCount s
     held-is = omega (arith, free-and-held s (passed-tested s v), ap (λ (g : Shape). g .n) (h .same))
 
-    pub held-few : g .n - free ≤ m * g .p
-    held-few = rw (held-is, em, h .same) (held-most s)
+    module _ (m : ℕ) (em : m ≡ mappedCount s) where
+      pub held-few : g .n - free ≤ m * g .p
+      held-few = rw (held-is, em, h .same) (held-most s)
 
-    pub report-made :
-        (hr sr : Float) → hr ≡ ratio (g .n - free) (g .n)
-        → sr ≡ cond (eqb m 0) zero64 (ratio (m * g .p - (g .n - free)) (m * g .p))
-        → _≡_ {A = Report} (record {
-          mapped = m;
-          held = g .n - free;
-          free = free;
-          saved = m * g .p - (g .n - free);
-          «held_ratio» = hr;
-          «saved_ratio» = sr;
-        }) (reportOf s)
-    unfolding reportOf
-    report-made hr sr eh es = rw (eh, es, em, held-is, e, h .same)
+      pub report-made :
+          (hr sr : Float) → hr ≡ ratio (g .n - free) (g .n)
+          → sr ≡ ratioIfMapped m (m * g .p - (g .n - free)) (m * g .p)
+          → _≡_ {A = Report} (record {
+            mapped = m;
+            held = g .n - free;
+            free = free;
+            saved = m * g .p - (g .n - free);
+            «held_ratio» = hr;
+            «saved_ratio» = sr;
+          }) (reportOf s)
+      unfolding reportOf
+      report-made hr sr eh es = rw (eh, es, em, held-is, e, h .same)

@@ -1,4 +1,4 @@
--- A division of two counts and a product with a count are rounded once: the count itself is exact as an f64.
+-- A division of two counts and a product with a count are rounded once: the count itself is exact as an f64. And how large such a quotient is.
 use Prim.Native.Nat.{ℕ, suc, _+_, _*_, _^_, _≤_, _<_}
 use native.Mathlib.Nat.{mul-assoc, mul-comm, mul-left-comm, mul-one, mul-pos, lt-irrefl, le-trans, zero-mul, one-mul, eq-of-mul-eq-mul-right}
 use native.Mathlib.Omega.{arith}
@@ -55,18 +55,18 @@ pub ratio-rounds : (a b : ℕ) → a ≤ 2 ^ 53 → 0 < b → b ≤ 2 ^ 53 → r
 unfolding ratio
 ratio-rounds a b ha B hb = div-whole binary64 (ofInt binary64 (pos a)) (ofInt binary64 (pos b)) a b B (count-exact a ha) (count-exact b hb)
 
--- a number from 0.0 to 1.0: not a NaN, not negative, not above 1
+-- a number from 0.0 to 1.0: not a NaN, not below 0, not above 1
 abbrev pub Share : Float → Type 0
 Share x = T (le zero64 x) × T (le x one64)
 
--- a ratio to no less is such a number
+-- a count divided by one that is no smaller
 pub ratio-share : (a b : ℕ) → a ≤ b → 0 < b → b ≤ 2 ^ 53 → Share (ratio a b)
 unfolding round
 ratio-share a b h B hb =
     rw (ratio-rounds a b (le-trans h hb) B hb)
     (round-mono binary64 0 1 a b (lit< tt) B (omega arith), round-mono binary64 a b 1 1 B (lit< tt) (omega arith))
 
--- and of nothing it is 0.0
+-- 0 divided by a count is +0.0
 pub ratio-none : (b : ℕ) → 0 < b → b ≤ 2 ^ 53 → ratio 0 b ≡ zero64
 unfolding round
 ratio-none b B hb = ratio-rounds 0 b zero≤ B hb ∙ round-same binary64 false 0 b 0 1 B (lit< tt) (omega arith)

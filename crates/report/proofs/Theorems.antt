@@ -4,10 +4,10 @@ use native.Mathlib.Nat.{zero-mul, mul-pos, eq-zero-or-pos}
 use native.Mathlib.Omega.{arith}
 use mathlib.Core.Path.{_≡_, refl, ap, _∙_}
 use mathlib.Core.Logic.{⊎-elim}
-use mathlib.Core.Bool.{Bool, true, false, cond}
+use mathlib.Core.Bool.{Bool, true, false}
 use mathlib.Core.List.{List}
 use borrow.Author.Tests.{eq-eqb, ne-eqb}
-use lib.Dec.{T, eqb}
+use lib.Dec.{T}
 use lib.ListN.{length}
 use lib.IntN.{pos}
 use lib.Ieee.{Float, fin, binary64, round, ofInt, lt, le, isNan}
@@ -17,8 +17,11 @@ use Rattle.search.proofs.Ranges.{member-below}
 use Rattle.search.proofs.Kept.{keep-none}
 use Rattle.layout.specs.declared.Shape.{Shape}
 use Rattle.layout.specs.Layout.{shapeOf, fresh}
+use Rattle.layout.specs.declared.Formatted.the-variants.{Done}
+use Rattle.layout.specs.Format.{formatAnswer, formatImage}
 use Rattle.layout.specs.Shaped.{Limits}
-use Rattle.layout.proofs.Limits.{units-high}
+use Rattle.layout.proofs.Limits.{limits, units-high}
+use Rattle.layout.proofs.Formatting.{formatted}
 use Rattle.image.specs.declared.Verdict.the-variants.{Passed}
 use Rattle.image.specs.Soundness.{mapped, Sound}
 use Rattle.image.specs.Verdicts.{verdict}
@@ -31,7 +34,7 @@ use Rattle.report.specs.declared.Report.{Report}
 use Rattle.report.specs.declared.Alarm.the-variants.{Silent}
 use Rattle.report.specs.declared.Level.the-variants.{Fraction}
 use Rattle.report.specs.Counts.{mappedCount, heldCount, freeCount}
-use Rattle.report.specs.Reports.{zero64, ratio, reportOf, passedReport, reportAnswer}
+use Rattle.report.specs.Reports.{zero64, ratioIfMapped, reportOf, passedReport, reportAnswer}
 use Rattle.report.specs.Alarms.{badFraction, soundsIf, alarmAt, alarmAnswer}
 use Rattle.report.proofs.CountLaws.{held-most, held-least, mapped-most, raw-fits}
 use Rattle.report.proofs.Rounded.{Share, count-exact, ratio-rounds, ratio-share, ratio-none, product-rounds, zero-product}
@@ -42,7 +45,7 @@ pub record Figures (g : Shape) (r : Report) : Type 0 where
   pub units : r .held + r .free ≡ g .n
   -- "mapped chunks times P, less held units" is never negative: held units are at most that
   pub chunks : r .saved + r .held ≡ r .mapped * g .p
-  -- and never all of it: a mapped chunk holds a unit at least
+  -- and, where something is mapped, never all of it: a mapped chunk holds a unit at least
   pub some : r .mapped ≤ r .held
   -- "from exact counts and one rounded division": the f64 nearest to the quotient
   pub held-rounded : r .«held_ratio» ≡ round binary64 false (r .held) (g .n)
@@ -58,11 +61,11 @@ abbrev pub emptyReport : ℕ → Report
 emptyReport n = record { mapped = 0; held = 0; free = n; saved = 0; «held_ratio» = zero64; «saved_ratio» = zero64 }
 
 -- the saved ratio of m chunks of p units each, of which h are held
-module _ (m p h : ℕ) (some : 2 ≤ p) (most : h ≤ m * p) (fits : m * p ≤ 4096) where
-  saved-some : 0 < m → cond (eqb m 0) zero64 (ratio (m * p - h) (m * p)) ≡ round binary64 false (m * p - h) (m * p)
+module _ (m p h : ℕ) (low : 2 ≤ p) (most : h ≤ m * p) (fits : m * p ≤ 4096) where
+  saved-some : 0 < m → ratioIfMapped m (m * p - h) (m * p) ≡ round binary64 false (m * p - h) (m * p)
   saved-some M = rw (ne-eqb m 0 (λ e. omega arith)) (ratio-rounds (m * p - h) (m * p) (omega arith) (mul-pos M (omega arith)) (omega arith))
 
-  saved-shares : Share (cond (eqb m 0) zero64 (ratio (m * p - h) (m * p)))
+  saved-shares : Share (ratioIfMapped m (m * p - h) (m * p))
   saved-shares = ⊎-elim
       (λ e. rw (eq-eqb m 0 e) (unfold le in (tt, tt)))
       (λ M. rw (ne-eqb m 0 (λ e. omega arith)) (ratio-share (m * p - h) (m * p) (omega arith) (mul-pos M (omega arith)) (omega arith)))
@@ -138,14 +141,16 @@ module _ (g : Shape) (s : List ℕ) (z : Sound g s) where
       let all = count-exact (g .n) (omega arith) in
       rw (passed, good-zero b, sound-shape g s z, zero-product (ofInt binary64 (pos (freeCount s))) (ofInt binary64 (pos (g .n))) b (freeCount s) (g .n) free all)
 
--- A fresh volume saves nothing.
-module _ (g : Shape) (k : Limits g) where
-  none-mapped : mappedCount (fresh g) ≡ 0
-  unfolding mappedCount
-  none-mapped =
-      let c : shapeOf (fresh g) .c ≡ g .c = ap (λ (q : Shape). q .c) (shape-fresh g k) in
-      ap length (keep-none (mapped (fresh g)) (below (shapeOf (fresh g) .c)) (λ i m.
-      not-mapped (fresh g) i (word-fresh g i (let b = member-below i (shapeOf (fresh g) .c) m in omega arith))))
+none-mapped : (g : Shape) → Limits g → mappedCount (fresh g) ≡ 0
+unfolding mappedCount
+none-mapped g l =
+    let c : shapeOf (fresh g) .c ≡ g .c = ap (λ (q : Shape). q .c) (shape-fresh g l) in
+    ap length (keep-none (mapped (fresh g)) (below (shapeOf (fresh g) .c)) (λ i m.
+    not-mapped (fresh g) i (word-fresh g i (let b = member-below i (shapeOf (fresh g) .c) m in omega arith))))
 
-  pub fresh-report : reportAnswer (fresh g) ≡ passedReport (emptyReport (g .n))
-  fresh-report = unmapped-report g (fresh g) (sound-fresh g k) none-mapped
+-- A fresh volume saves nothing.
+pub fresh-report : (g : Shape) (s : List ℕ) → formatAnswer g s ≡ Done → reportAnswer (formatImage g s) ≡ passedReport (emptyReport (g .n))
+fresh-report g s d =
+    let f = formatted g s d in
+    let l = limits g (f .0) in
+    rw (f .1) (unmapped-report g (fresh g) (sound-fresh g l) (none-mapped g l))

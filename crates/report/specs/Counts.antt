@@ -1,6 +1,6 @@
 -- The report's counts, of a sound image: "mapped chunks, held units, free units, saved units". What counts as saved is not document 01's "C·P
 -- less held" but its correction, document 02's request 1: "Saved units must be counted over mapped chunks only". It stands in rawCount and
--- savedCount here and in savedRatio (Reports.antt), and nowhere else.
+-- savedCount here and in ratioIfMapped and savedRatio (Reports.antt), and nowhere else.
 use Prim.Native.Nat.{ℕ, _-_, _*_}
 use mathlib.Core.List.{List}
 use lib.ListN.{length}

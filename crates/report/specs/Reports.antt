@@ -26,9 +26,13 @@ ratio a b = div binary64 (ofInt binary64 (pos a)) (ofInt binary64 (pos b))
 abbrev pub heldRatio : List ℕ → Float
 heldRatio s = ratio (heldCount s) (shapeOf s .n)
 
--- "The ratio's divisor becomes mapped times P, and the ratio is 0.0 when nothing is mapped" (document 02, request 1)
+-- "the ratio is 0.0 when nothing is mapped" (document 02, request 1); otherwise saved / raw
+abbrev pub ratioIfMapped : ℕ → ℕ → ℕ → Float
+ratioIfMapped mapped saved raw = cond (eqb mapped 0) zero64 (ratio saved raw)
+
+-- "The ratio's divisor becomes mapped times P"
 abbrev pub savedRatio : List ℕ → Float
-savedRatio s = cond (eqb (mappedCount s) 0) zero64 (ratio (savedCount s) (rawCount s))
+savedRatio s = ratioIfMapped (mappedCount s) (savedCount s) (rawCount s)
 
 -- of a sound image
 unfoldable pub reportOf : List ℕ → Report

@@ -6,7 +6,7 @@ pub mod reports;
 use image::Verdict;
 use layout::Refusal;
 
-// Mapped chunks, held, free and saved units, held / N and saved / (mapped * P). Saved are mapped * P units less held; the last ratio is 0.0 when
+// Mapped chunks, held, free and saved units, held / N and saved / (mapped * P). Saved units are mapped * P less held; the last ratio is 0.0 when
 // nothing is mapped.
 pub struct Report {
     pub mapped: u32,

@@ -8,13 +8,11 @@ use image::load::load;
 use layout::Refusal;
 use layout::Shape;
 ghost use mathlib.Core.Path.{_≡_};
-ghost use mathlib.Core.Bool.{cond};
-ghost use lib.Dec.{eqb};
 ghost use Rattle.layout.specs.Shaped.{Shaped};
 ghost use Rattle.image.specs.Verdicts.{verdict};
 ghost use Rattle.report.specs.Counts.{freeCount};
 ghost use Rattle.report.specs.Reports;
-ghost use Rattle.report.specs.Reports.{zero64, reportOf, passedReport, refusedReport, reportAnswer};
+ghost use Rattle.report.specs.Reports.{ratioIfMapped, reportOf, passedReport, refusedReport, reportAnswer};
 
 // One rounded division of two counts.
 fn ratio(a: u32, b: u32) -> f64
@@ -23,9 +21,9 @@ fn ratio(a: u32, b: u32) -> f64
     a as f64 / b as f64
 }
 
-// Saved units by those of the mapped chunks stored raw; 0.0 when nothing is mapped.
+// Saved units divided by raw, the units of the mapped chunks stored raw; 0.0 when nothing is mapped.
 fn saved_ratio(mapped: u32, saved: u32, raw: u32) -> f64
-    ensures { λ r. ⌜ r ≡ cond (eqb mapped 0) zero64 (Reports.ratio saved raw) ⌝ }
+    ensures { λ r. ⌜ r ≡ ratioIfMapped mapped saved raw ⌝ }
 {
     if mapped == 0 {
         return 0.0;

@@ -17,12 +17,12 @@ mul-raw c =
 sub-held : tie.Need-sub-held
 sub-held c =
     let a = c .before .before .before in
-    free-high (now (a .args .image)) (a .args .g) (a .pre .0) _ (c .before .mapped-count .ensures) (a .pre .1 .0) (a .args .free) (a .pre .1 .1)
+    free-high (now (a .args .image)) (a .args .g) (a .pre .0) (a .pre .1 .0) (a .args .free) (a .pre .1 .1)
 
 sub-saved : tie.Need-sub-saved
 sub-saved c =
     let a = c .before .before .before in
-    held-few (now (a .args .image)) (a .args .g) (a .pre .0) _ (c .before .mapped-count .ensures) (a .pre .1 .0) (a .args .free) (a .pre .1 .1)
+    held-few (now (a .args .image)) (a .args .g) (a .pre .0) (a .pre .1 .0) (a .args .free) (a .pre .1 .1) _ (c .before .mapped-count .ensures)
 
 ratio-requires : tie.Need-ratio-requires
 ratio-requires c κs = search needs
@@ -33,7 +33,7 @@ saved-ratio-requires c κs = search needs
 returns : tie.Need-returns
 returns c =
     let a = c .before .before .before .before .before in
-    report-made (now (a .args .image)) (a .args .g) (a .pre .0) _ (c .before .before .before .mapped-count .ensures) (a .pre .1 .0) (a .args .free) (a .pre .1 .1) _ _ (c .before .ratio .ensures) (c .saved-ratio .ensures)
+    report-made (now (a .args .image)) (a .args .g) (a .pre .0) (a .pre .1 .0) (a .args .free) (a .pre .1 .1) _ (c .before .before .before .mapped-count .ensures) _ _ (c .before .ratio .ensures) (c .saved-ratio .ensures)
 
 pub report-in-spec : {M : Type 1} → statement M
 report-in-spec =
