@@ -1,4 +1,4 @@
-/* Document 01's worked cases through the C interface, and the edges of C: empty slices, struct sizes. Says only what is wrong, and how many are right. */
+/* The worked cases of document 01, with document 02's figure of what is saved, through the C interface, and the edges of C: empty slices, struct sizes. Says only what is wrong, and how many are right. */
 #include <math.h>
 #include <stdio.h>
 #include <stdlib.h>
@@ -68,8 +68,9 @@ static void worked_cases(void)
     is("free maps 0 to 4", loaded[76], 0x1F);
     is("80 words", sumbilak_load(image, IMAGE, loaded, 80).place, 648);
     sumbilak_report_answer r = sumbilak_report(image, IMAGE);
-    is("a fresh volume has nothing mapped", r.mapped + r.held, 0);
-    is("and saves nothing", r.saved, 0);
+    is("the report on a fresh volume", r.number, 0);
+    is("all of it is free", r.free, N);
+    is("it saves nothing", r.saved, 0);
     is("at 0.0", r.saved_ratio == 0.0 && !signbit(r.saved_ratio), 1);
 
     is("nine steps", write_chunk(image, 2, 6144, 0), 9);
@@ -161,6 +162,6 @@ int main(void)
     worked_cases();
     limits();
     empty_slices();
-    printf("C interface: %d of %d as document 01 has them\n", asked - failed, asked);
+    printf("C interface: %d of %d as documents 01 and 02 have them\n", asked - failed, asked);
     return failed != 0;
 }
