@@ -14,8 +14,8 @@ use Rattle.search.proofs.Bools.{and-right, either, same}
 use Rattle.layout.specs.declared.Shape.{Shape}
 use Rattle.layout.specs.declared.Refusal.{Refusal}
 use Rattle.layout.specs.declared.Refusal.the-variants.{Range, Small}
-use Rattle.layout.specs.Layout.{isUnit, unitWords, shapeOf, linkOf}
-use Rattle.layout.specs.Shaped.{Limits, mapOf}
+use Rattle.layout.specs.Layout.{shapeOf}
+use Rattle.layout.specs.Shaped.{Limits}
 use Rattle.layout.proofs.Limits.{fitting-limits}
 use Rattle.image.specs.declared.Verdict.{Verdict}
 use Rattle.image.specs.declared.Verdict.the-variants.{Passed, Refused as Unsound}
@@ -23,8 +23,7 @@ use Rattle.image.specs.Soundness.{mapped, unitsOf}
 use Rattle.image.specs.Verdicts.{verdict}
 use Rattle.image.specs.Answers.{ifSound}
 use Rattle.image.proofs.SoundLaws.{passed-tested}
-use Rattle.image.proofs.Leading.{form-of}
-use Rattle.image.proofs.Chunks.{mapped-named, named-map, units-mapped, units-unmapped}
+use Rattle.image.proofs.Chunks.{units-unmapped, units-some}
 use Rattle.access.specs.declared.Piece.{Piece}
 use Rattle.access.specs.declared.Split.the-variants.{Pieces, Refused as NotSplit}
 use Rattle.access.specs.declared.Extent.{Extent}
@@ -121,7 +120,5 @@ held-holds s i e = ⊎-elim (mapped-holds s i e) none (either (mapped s i))
 -- And a mapped chunk's part is not empty.
 pub held-some : (s : List ℕ) (i : ℕ) → heldStatus s i ≡ Answered → mapped s i ≡ true → 0 < length (heldPart s i)
 held-some s i e m =
-    let g = shapeOf s in
     let z = answered s i e in
-    let f = form-of (isUnit g) (unitWords g (mapOf s (linkOf s i))) (sym (named-map s i (mapped-named s i m)) ∙ z .0 .maps i (z .1)) in
-    omega (arith, mapped-holds s i e m .size, ap length (units-mapped s i m), f .some)
+    omega (arith, mapped-holds s i e m .size, units-some s (z .0) i (z .1) m)

@@ -21,7 +21,7 @@ use Rattle.layout.proofs.Limits.{unit-below}
 use Rattle.image.specs.Soundness.{mapped, unitsOf, leading, Named}
 use Rattle.image.specs.Verdicts.{wellFormed, goodLink, goodMap, clash}
 use Rattle.image.specs.Claims.{Tested, heldIn}
-use Rattle.image.proofs.Leading.{length-leading, leading-all, form-none, form-some}
+use Rattle.image.proofs.Leading.{length-leading, leading-all, form-none, form-some, form-of}
 
 -- ---- the words of a map
 
@@ -139,6 +139,13 @@ clash-units s i j e = disjoint-intro (unitsOf s i) (unitsOf s j) (λ u m. is-fal
 -- ---- of an image that passes
 
 module _ (s : List ℕ) (z : Tested s) where
+  -- a mapped chunk holds a unit
+  pub units-some : (i : ℕ) → i < shapeOf s .c → mapped s i ≡ true → 0 < length (unitsOf s i)
+  units-some i h m =
+      let g = shapeOf s in
+      let f = form-of (isUnit g) (unitWords g (mapOf s (linkOf s i))) (sym (named-map s i (mapped-named s i m)) ∙ z .maps i h) in
+      omega (arith, ap length (units-mapped s i m), f .some)
+
   -- two chunks of which neither clashes with the other are one
   one-chunk : (i j : ℕ) → i < shapeOf s .c → j < shapeOf s .c → (clash s i j ≡ false → ⊥) → (clash s j i ≡ false → ⊥) → i ≡ j
   one-chunk i j h l a b =

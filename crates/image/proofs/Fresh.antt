@@ -34,7 +34,7 @@ word-fresh g i h =
     omega arith
 
 module _ (g : Shape) (l : Limits g) where
-  absent-fresh : (i : ℕ) → i < g .c → linkOf (fresh g) i ≡ X
+  pub absent-fresh : (i : ℕ) → i < g .c → linkOf (fresh g) i ≡ X
   absent-fresh i h = word-fresh g i (omega arith)
 
   pub sound-fresh : Sound g (fresh g)

@@ -20,13 +20,13 @@ use Rattle.layout.specs.Layout.{shapeOf, fresh}
 use Rattle.layout.specs.declared.Formatted.the-variants.{Done}
 use Rattle.layout.specs.Format.{formatAnswer, formatImage}
 use Rattle.layout.specs.Shaped.{Limits}
-use Rattle.layout.proofs.Limits.{limits, units-high}
+use Rattle.layout.proofs.Limits.{limits, product-high, units-high}
 use Rattle.layout.proofs.Formatting.{formatted}
 use Rattle.image.specs.declared.Verdict.the-variants.{Passed}
 use Rattle.image.specs.Soundness.{mapped, Sound}
 use Rattle.image.specs.Verdicts.{verdict}
 use Rattle.image.proofs.Chunks.{not-mapped}
-use Rattle.image.proofs.Fresh.{word-fresh, sound-fresh, shape-fresh}
+use Rattle.image.proofs.Fresh.{absent-fresh, sound-fresh, shape-fresh}
 use Rattle.image.proofs.SoundLaws.{tested-passed}
 use Rattle.image.proofs.Wording.{sound-tested, sound-shape}
 use Rattle.image.proofs.Room.{free-and-held}
@@ -36,7 +36,7 @@ use Rattle.report.specs.declared.Level.the-variants.{Fraction}
 use Rattle.report.specs.Counts.{mappedCount, heldCount, freeCount}
 use Rattle.report.specs.Reports.{zero64, ratioIfMapped, reportOf, passedReport, reportAnswer}
 use Rattle.report.specs.Alarms.{badFraction, soundsIf, alarmAt, alarmAnswer}
-use Rattle.report.proofs.CountLaws.{held-most, held-least, mapped-most, raw-fits}
+use Rattle.report.proofs.CountLaws.{held-most, held-least, mapped-most}
 use Rattle.report.proofs.Rounded.{Share, count-exact, ratio-rounds, ratio-share, ratio-none, product-rounds, zero-product}
 
 -- What the figures of a report say of one another.
@@ -61,7 +61,7 @@ abbrev pub emptyReport : ℕ → Report
 emptyReport n = record { mapped = 0; held = 0; free = n; saved = 0; «held_ratio» = zero64; «saved_ratio» = zero64 }
 
 -- the saved ratio of m chunks of p units each, of which h are held
-module _ (m p h : ℕ) (low : 2 ≤ p) (most : h ≤ m * p) (fits : m * p ≤ 4096) where
+module _ (m p h : ℕ) (low : 2 ≤ p) (most : h ≤ m * p) (fits : m * p ≤ 4608) where
   saved-some : 0 < m → ratioIfMapped m (m * p - h) (m * p) ≡ round binary64 false (m * p - h) (m * p)
   saved-some M = rw (ne-eqb m 0 (λ e. omega arith)) (ratio-rounds (m * p - h) (m * p) (omega arith) (mul-pos M (omega arith)) (omega arith))
 
@@ -83,8 +83,11 @@ module _ (g : Shape) (s : List ℕ) (z : Sound g s) where
   most : heldCount s ≤ mappedCount s * g .p
   most = rw (sound-shape g s z) at (held-most s)
 
-  fits : mappedCount s * g .p ≤ 4096
-  fits = raw-fits g (mappedCount s) (z .limits) (rw (sound-shape g s z) at (mapped-most s))
+  fits : mappedCount s * g .p ≤ 4608
+  fits =
+      let l = z .limits in
+      let few = rw (sound-shape g s z) at (mapped-most s) in
+      product-high (g .p) (mappedCount s) (l .p-high) (omega (arith, l .c-high))
 
   counted : freeCount s + heldCount s ≡ g .n
   counted = free-and-held s (sound-tested g s z) ∙ ap (λ (h : Shape). h .n) (sound-shape g s z)
@@ -146,7 +149,7 @@ unfolding mappedCount
 none-mapped g l =
     let c : shapeOf (fresh g) .c ≡ g .c = ap (λ (q : Shape). q .c) (shape-fresh g l) in
     ap length (keep-none (mapped (fresh g)) (below (shapeOf (fresh g) .c)) (λ i m.
-    not-mapped (fresh g) i (word-fresh g i (let b = member-below i (shapeOf (fresh g) .c) m in omega arith))))
+    not-mapped (fresh g) i (absent-fresh g l i (let b = member-below i (shapeOf (fresh g) .c) m in omega arith))))
 
 -- A fresh volume saves nothing.
 pub fresh-report : (g : Shape) (s : List ℕ) → formatAnswer g s ≡ Done → reportAnswer (formatImage g s) ≡ passedReport (emptyReport (g .n))

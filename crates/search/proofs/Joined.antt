@@ -1,13 +1,13 @@
 -- Lists joined one after the other: their members, their length, and when no number stands in them twice.
 use Prim.Native.Nat.{ℕ, zero, suc, _+_, _*_, _≤_, _<_}
 use native.Mathlib.Omega.{arith}
-use mathlib.Core.Path.{_≡_, sym, ap, _∙_}
-use mathlib.Core.Bool.{Bool, true, _||_}
-use mathlib.Core.List.{List, [], _∷_}
+use mathlib.Core.Path.{_≡_, refl, sym, ap, _∙_}
+use mathlib.Core.Bool.{Bool, true, false, cond, _||_}
+use mathlib.Core.List.{List, [], _∷_, _++_}
 use lib.ListN.{length, length-append}
-use Rattle.search.specs.Search.{from, any, member, distinct, disjoint, joined}
+use Rattle.search.specs.Search.{from, any, keep, member, distinct, disjoint, joined}
 use Rattle.search.proofs.Bools.{contradict, is-false}
-use Rattle.search.proofs.Members.{member-nil, member-append, any-at}
+use Rattle.search.proofs.Members.{member-nil, member-head, member-tail, member-append, any-at}
 use Rattle.search.proofs.Ranges.{member-from}
 use Rattle.search.proofs.Distinct.{distinct-nil, distinct-append, disjoint-at, disjoint-intro}
 
@@ -25,6 +25,26 @@ length-joined f p (x ∷ xs) h =
     let e = length-append (f x) (joined f xs) in
     let q = h x in
     omega arith
+
+-- and of at least p
+pub length-joined-low : (f : ℕ → List ℕ) (p : ℕ) (xs : List ℕ) → ((x : ℕ) → member x xs ≡ true → p ≤ length (f x)) → length xs * p ≤ length (joined f xs)
+unfolding joined
+length-joined-low f p [] h = omega arith
+length-joined-low f p (x ∷ xs) h =
+    let i = length-joined-low f p xs (λ y m. h y (member-tail y x xs m)) in
+    let e = length-append (f x) (joined f xs) in
+    let q = h x (member-head x x xs refl) in
+    omega arith
+
+-- a test that keeps every number with a list keeps all of the joined lists
+pub joined-kept : (f : ℕ → List ℕ) (q : ℕ → Bool) (xs : List ℕ) → ((x : ℕ) → q x ≡ false → f x ≡ []) → joined f (keep q xs) ≡ joined f xs
+unfolding joined keep
+joined-kept f q [] h = refl
+joined-kept f q (x ∷ xs) h = pick (q x) refl (joined-kept f q xs h)
+  where
+    pick : (b : Bool) → q x ≡ b → joined f (keep q xs) ≡ joined f xs → joined f (cond b (x ∷ keep q xs) (keep q xs)) ≡ f x ++ joined f xs
+    pick true e i = ap (λ (us : List ℕ). f x ++ us) i
+    pick false e i = rw (h x e) i
 
 pub distinct-joined : (f : ℕ → List ℕ) (i n : ℕ) → ((j : ℕ) → j < i + n → distinct (f j) ≡ true)
     → ((j k : ℕ) → j < k → k < i + n → disjoint (f j) (f k) ≡ true)

@@ -2,7 +2,8 @@
 use native.Mathlib.Omega.{arith}
 use denote.Ref.{now}
 use borrow.Author.Needs.{needs}
-use Rattle.report.proofs.CountLaws.{raw-high, free-high, held-few, report-made}
+use Rattle.layout.proofs.Limits.{product-high}
+use Rattle.report.proofs.CountLaws.{mapped-few, free-high, held-few, report-made}
 use Rattle.report.proofs.reports.report_in.Statement.{statement}
 use Rattle.report.proofs.reports.report_in.Tie as tie
 
@@ -12,7 +13,9 @@ mapped-count-requires c κs = search needs
 mul-raw : tie.Need-mul-raw
 mul-raw c =
     let a = c .before .before .before in
-    omega (arith, raw-high (now (a .args .image)) (a .args .g) (a .pre .0) _ (c .before .mapped-count .ensures))
+    let l = a .pre .0 .limits in
+    let few = mapped-few (now (a .args .image)) (a .args .g) (a .pre .0) _ (c .before .mapped-count .ensures) in
+    omega (arith, product-high (a .args .g .p) (c .before .mapped-count .result) (l .p-high) (omega (arith, l .c-high)))
 
 sub-held : tie.Need-sub-held
 sub-held c =
