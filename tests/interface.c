@@ -1,4 +1,5 @@
-/* The worked cases of document 01, with document 02's figure of what is saved, through the C interface, and the edges of C: empty slices, struct sizes. Says only what is wrong, and how many are right. */
+/* The worked cases of document 01, with document 02's figure of what is saved, through the C interface, and the edges of C: empty slices, struct
+ * sizes. Says only what is wrong, and how many are right. */
 #include <math.h>
 #include <stdio.h>
 #include <stdlib.h>
