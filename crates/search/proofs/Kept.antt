@@ -1,16 +1,16 @@
 -- The numbers of a list that a test keeps: which they are, and that they depend on the test's answers only.
 use Prim.Native.Nat.{ℕ, zero, suc, _+_, _≤_, _<_}
 use native.Mathlib.Omega.{arith}
-use native.Mathlib.Nat.{suc-add}
+use native.Mathlib.Nat.{zero-add, add-zero, suc-add}
 use mathlib.Core.Path.{_≡_, refl, sym, ap, _∙_}
 use mathlib.Core.Logic.{_⊎_, inl, inr, ⊎-elim}
 use mathlib.Core.Bool.{Bool, true, false, cond}
 use lib.ListN.{length}
-use mathlib.Core.List.{List, [], _∷_}
+use mathlib.Core.List.{List, [], _∷_, _++_, append-nil}
 use Rattle.search.specs.Search.{from, below, all, keep, member}
 use Rattle.search.proofs.Bools.{contradict, is-false, either, cond-true, cond-false}
 use Rattle.search.proofs.Members.{member-nil, member-cons, member-head, member-tail, all-intro}
-use Rattle.search.proofs.Ranges.{member-from, below-member}
+use Rattle.search.proofs.Ranges.{member-from, from-member}
 
 pub keep-nil : (f : ℕ → Bool) → keep f [] ≡ []
 unfolding keep
@@ -67,9 +67,12 @@ pub keep-none : (f : ℕ → Bool) (xs : List ℕ) → ((x : ℕ) → member x x
 keep-none f [] h = keep-nil f
 keep-none f (x ∷ xs) h = keep-cons-false f x xs (h x (member-head x x xs refl)) ∙ keep-none f xs (λ y m. h y (member-tail y x xs m))
 
+pub keep-empty : (f : ℕ → Bool) (i c : ℕ) → keep f (from i c) ≡ [] → (u : ℕ) → i ≤ u → u < i + c → f u ≡ false
+keep-empty f i c e u h l =
+    is-false (f u) (λ p. contradict (keep-member f u (from i c) (from-member u i c h l) p) (ap (member u) e ∙ member-nil u))
+
 pub keep-below-empty : (f : ℕ → Bool) (n : ℕ) → keep f (below n) ≡ [] → (i : ℕ) → i < n → f i ≡ false
-keep-below-empty f n e i h =
-    is-false (f i) (λ p. contradict (keep-member f i (below n) (below-member i n h) p) (ap (member i) e ∙ member-nil i))
+keep-below-empty f n e i h = keep-empty f 0 n e i (omega arith) (omega arith)
 
 -- ---- two tests, two ranges
 
@@ -82,11 +85,23 @@ keep-ext f g (x ∷ xs) h =
     let e : f x ≡ g x = h x (member-head x x xs refl) in
     cc
 
+-- what is kept of a range in two parts
+pub keep-cut : (f : ℕ → Bool) (i c d : ℕ) → keep f (from i (c + d)) ≡ keep f (from i c) ++ keep f (from (i + c) d)
+unfolding from keep
+keep-cut f i zero d = rw (zero-add d, add-zero i)
+keep-cut f i (suc c) d =
+    let next : suc i + c ≡ i + suc c = omega arith in
+    rw (suc-add c d, keep-cut f (suc i) c d, next) (cell (f i) (keep f (from (suc i) c)) (keep f (from (i + suc c) d)))
+  where
+    cell : (b : Bool) (xs ys : List ℕ) → cond b (i ∷ (xs ++ ys)) (xs ++ ys) ≡ cond b (i ∷ xs) xs ++ ys
+    cell true xs ys = refl
+    cell false xs ys = refl
+
 -- a test that fails from i + c on keeps nothing there
 pub keep-short : (f : ℕ → Bool) (i c d : ℕ) → ((u : ℕ) → i + c ≤ u → f u ≡ false) → keep f (from i (c + d)) ≡ keep f (from i c)
-unfolding from keep
-keep-short f i zero d h = keep-none f (from i (0 + d)) (λ u m. h u (omega (arith, member-from u i (0 + d) m)))
-keep-short f i (suc c) d h = rw (suc-add, keep-short f (suc i) c d (λ u a. h u (omega arith)))
+keep-short f i c d h =
+    let none = keep-none f (from (i + c) d) (λ u m. h u (member-from u (i + c) d m .0)) in
+    keep-cut f i c d ∙ rw none (append-nil (keep f (from i c)))
 
 -- no more than there were
 pub keep-few : (f : ℕ → Bool) (xs : List ℕ) → length (keep f xs) ≤ length xs

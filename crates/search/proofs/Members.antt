@@ -170,6 +170,10 @@ pub first-same : (a b : ℕ) (xs : List ℕ) → 0 < length xs → firstOr a xs 
 first-same a b [] h = absurd (omega arith)
 first-same a b (x ∷ xs) h = refl
 
+pub first-append : (d : ℕ) (xs ys : List ℕ) → firstOr d (xs ++ ys) ≡ firstOr (firstOr d ys) xs
+first-append d [] ys = refl
+first-append d (x ∷ xs) ys = refl
+
 pub first-taken : (d : ℕ) (xs : List ℕ) → 0 < length xs → take 1 xs ≡ firstOr d xs ∷ []
 first-taken d [] h = absurd (omega arith)
 first-taken d (x ∷ xs) h = refl

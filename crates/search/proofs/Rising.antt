@@ -1,13 +1,13 @@
 -- The members of a set in rising order: one step, the end, the first of them, and the k lowest.
 use Prim.Native.Nat.{ℕ, zero, suc, _+_, _-_, _≤_, _<_}
-use native.Mathlib.Nat.{le-refl, le-trans, sub-zero}
+use native.Mathlib.Nat.{le-refl, le-trans, eq-or-lt-of-le, sub-zero}
 use native.Mathlib.Numerals.{add-one}
 use native.Mathlib.Omega.{arith}
 use mathlib.Core.Path.{_≡_, refl, sym, ap, subst, _∙_}
 use mathlib.Core.Logic.{⊎-elim}
 use mathlib.Core.Bool.{Bool, true, false, cond}
-use mathlib.Core.List.{List, [], _∷_}
-use lib.ListN.{length, getD, take, set}
+use mathlib.Core.List.{List, [], _∷_, _++_}
+use lib.ListN.{length, getD, take, set, drop-of-length-le}
 use lib.Seq.{sets, getD-take, length-take-le}
 use lib.Dec.{ltb}
 use borrow.Author.Tests.{ltb-true, ltb-false}
@@ -16,7 +16,7 @@ use Rattle.search.specs.Sets.{Lowest}
 use Rattle.search.proofs.Bools.{contradict, either}
 use Rattle.search.proofs.Members.{member-place, member-getD, member-take}
 use Rattle.search.proofs.Ranges.{length-from, member-from, below-member}
-use Rattle.search.proofs.Kept.{keep-nil, keep-cons-true, keep-cons-false, keep-few, keep-member, member-keep}
+use Rattle.search.proofs.Kept.{keep-nil, keep-cons-true, keep-cons-false, keep-empty, keep-cut, keep-few, keep-member, member-keep}
 
 module _ (f : ℕ → Bool) (n : ℕ) where
   pub rising-end : (i : ℕ) → n ≤ i → rising f n i ≡ []
@@ -25,22 +25,31 @@ module _ (f : ℕ → Bool) (n : ℕ) where
       let e : n - i ≡ 0 = omega arith in
       rw e
 
-  pub rising-in : (i : ℕ) → i < n → f i ≡ true → rising f n i ≡ i ∷ rising f n (i + 1)
+  rising-in : (i : ℕ) → i < n → f i ≡ true → rising f n i ≡ i ∷ rising f n (i + 1)
   unfolding rising from keep
   rising-in i h t =
       let e : n - i ≡ suc (n - (i + 1)) = omega arith in
       rw (e, t, add-one)
 
-  pub rising-out : (i : ℕ) → i < n → f i ≡ false → rising f n i ≡ rising f n (i + 1)
+  rising-out : (i : ℕ) → i < n → f i ≡ false → rising f n i ≡ rising f n (i + 1)
   unfolding rising from keep
   rising-out i h t =
       let e : n - i ≡ suc (n - (i + 1)) = omega arith in
       rw (e, t, add-one)
 
-  -- the first of them, where there is one, is below n, and the others are those after it
+  -- those among the next j numbers, and those after them
+  pub rising-cut : (i j : ℕ) → i + j ≤ n → rising f n i ≡ keep f (from i j) ++ rising f n (i + j)
+  unfolding rising
+  rising-cut i j h =
+      let e : n - i ≡ j + (n - (i + j)) = omega arith in
+      rw e (keep-cut f i j (n - (i + j)))
+
+  -- the first of them, where there is one, is below n, the test holds at it and at no number before it, and the others are those after it
   pub record First (i a : ℕ) : Type 0 where
     pub from-i : i ≤ a
     pub below-n : a < n
+    pub holds : f a ≡ true
+    pub before : (u : ℕ) → i ≤ u → u < a → f u ≡ false
     pub rest : rising f n i ≡ a ∷ rising f n (a + 1)
 
   pub rising-first : (i d : ℕ) → 0 < length (rising f n i) → First i (firstOr d (rising f n i))
@@ -51,12 +60,18 @@ module _ (f : ℕ → Bool) (n : ℕ) where
           → First i (firstOr d (rising f n i))
       at c i e true t h r =
           let s = rising-in i (omega arith) t in
-          rw s (record { from-i = le-refl i; below-n = omega arith; rest = s })
+          rw s (record { from-i = le-refl i; below-n = omega arith; holds = t; before = λ u l k. absurd (omega arith); rest = s })
       at c i e false t h r =
           let s = rising-out i (omega arith) t in
           let k : 0 < length (rising f n (i + 1)) = rw s at h in
           let q = r k in
-          rw s (record { from-i = le-trans (omega arith) (q .from-i); below-n = q .below-n; rest = s ∙ q .rest })
+          rw s (record {
+            from-i = le-trans (omega arith) (q .from-i);
+            below-n = q .below-n;
+            holds = q .holds;
+            before = λ u l m. ⊎-elim (λ w. sym (ap f w) ∙ t) (λ w. q .before u (omega arith) m) (eq-or-lt-of-le l);
+            rest = s ∙ q .rest;
+          })
 
       go : (c i : ℕ) → n - i ≡ c → 0 < length (rising f n i) → First i (firstOr d (rising f n i))
       go zero i e h = absurd (let z : 0 < 0 = rw (rising-end i (omega arith)) at h in omega arith)
@@ -76,6 +91,10 @@ module _ (f : ℕ → Bool) (n : ℕ) where
       at : (k : ℕ) → length (rising f n i) ≡ k → length (rising f n i) ≡ 0
       at zero e = e
       at (suc k) e = absurd (let q = rising-first i n (omega arith) in omega (arith, q .below-n))
+
+  pub rising-empty : (i u : ℕ) → length (rising f n i) ≡ 0 → i ≤ u → u < n → f u ≡ false
+  unfolding rising
+  rising-empty i u e h l = keep-empty f i (n - i) (drop-of-length-le (rising f n i) {i = 0} (omega arith)) u h (omega arith)
 
 -- one turn of a loop that stores the first k - j of xs from index j
 pub sets-take-step : (j k a : ℕ) (xs ys : List ℕ) → j < k → xs ≡ a ∷ ys → (l : List ℕ)
