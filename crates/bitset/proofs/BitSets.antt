@@ -4,10 +4,11 @@ use mathlib.Core.Bool.{Bool, true, false}
 use mathlib.Core.List.{List}
 use mathlib.Core.Path.{_≡_, refl, ap, sym, _∙_}
 use native.Mathlib.Decide.{ℕ-discrete}
-use native.Mathlib.Nat.{zero-div, add-sub-cancel}
+use native.Mathlib.Nat.{zero-div, div-one, add-sub-cancel}
 use native.Mathlib.Omega.{arith}
 use lib.Bits.{bitOr}
 use lib.ListN.{length, getD, set, length-map, length-set, List·getD-eq-default}
+use lib.Pow.{shr-lt, shr-shr}
 use lib.Seq.{ext-getD, getD-set-same, getD-set-other}
 use Rattle.search.specs.Search.{below}
 use Rattle.search.specs.Sets.{put}
@@ -39,15 +40,29 @@ bitSet-ext f g n h =
     bitSet-intro (bitSet f n) g n (length-bitSet f n) λ i k.
     bitSet-word f n i k ∙ bits-ext f g (64 * i) 64 (λ y a b. h y (omega arith))
 
+-- ---- the digits of a word of 64 bits
+
+-- from number u on: those below it are shifted out
+pub word-from : (ws : List ℕ) (u : ℕ) → getD ws (u / 64) 0 < 2 ^ 64 → bits (inSet ws) u (64 - u % 64) ≡ getD ws (u / 64) 0 / 2 ^ (u % 64)
+unfolding inSet
+word-from ws u small =
+    let k = 64 - u % 64 in
+    let width : k + u % 64 ≡ 64 = omega arith in
+    bits-own (inSet ws) u k (getD ws (u / 64) 0 / 2 ^ (u % 64)) (shr-lt k (u % 64) (rw width small)) λ j l.
+    let word : (u + j) / 64 ≡ u / 64 = omega arith in
+    let bit : (u + j) % 64 ≡ u % 64 + j = omega arith in
+    rw (word, bit, ← shr-shr (getD ws (u / 64) 0) (u % 64) j)
+
+-- all of them
+pub word-whole : (ws : List ℕ) (i : ℕ) → getD ws i 0 < 2 ^ 64 → bits (inSet ws) (64 * i) 64 ≡ getD ws i 0
+word-whole ws i small =
+    let word : 64 * i / 64 ≡ i = omega arith in
+    let bit : 64 * i % 64 ≡ 0 = omega arith in
+    rw (word, bit) at (word-from ws (64 * i) (rw word small)) ∙ div-one (getD ws i 0)
+
 -- all words of 64 bits are a set: that of the numbers in it
 pub as-set : (ws : List ℕ) → ((i : ℕ) → getD ws i 0 < 2 ^ 64) → ws ≡ bitSet (inSet ws) (length ws)
-unfolding inSet
-as-set ws small =
-    bitSet-intro ws (inSet ws) (length ws) refl λ i k.
-    sym (bits-own (inSet ws) (64 * i) 64 (getD ws i 0) (small i) λ j l.
-    let word : (64 * i + j) / 64 ≡ i = omega arith in
-    let bit : (64 * i + j) % 64 ≡ j = omega arith in
-    rw (word, bit))
+as-set ws small = bitSet-intro ws (inSet ws) (length ws) refl (λ i k. sym (word-whole ws i (small i)))
 
 -- ---- what is in a set
 

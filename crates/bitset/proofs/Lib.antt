@@ -2,3 +2,5 @@
 pub mod Digits
 pub mod BitSets
 pub mod Members
+pub mod Counts
+pub mod Theorems

@@ -1,7 +1,8 @@
 -- A set of numbers as words of 64 bits (01: the free set, "kept as 72 words of 64 bits"; "maps likewise in 5 words"), and its members.
-use Prim.Native.Nat.{ℕ, zero, suc, _+_, _*_, _/_, _%_, _^_}
+use Prim.Native.Nat.{ℕ, zero, suc, _+_, _*_, _/_, _%_, _^_, _≤_, _<_}
 use mathlib.Core.Bool.{Bool, true, false, cond}
 use mathlib.Core.List.{List, map}
+use mathlib.Core.Path.{_≡_}
 use lib.ListN.{length, getD}
 use lib.Dec.{eqb}
 use Rattle.search.specs.Search.{below, rising}
@@ -39,3 +40,9 @@ membersFrom ws i = rising (inSet ws) (limit ws) i
 
 abbrev pub members : List ℕ → List ℕ
 members ws = membersFrom ws 0
+
+-- r is the next member from `start` on, or the limit, "none exactly when nothing is free" (02, request 2): to read beside `firstOr (limit ws) (membersFrom ws start)`
+pub record Next (ws : List ℕ) (start r : ℕ) : Type 0 where
+  pub within : r ≤ limit ws
+  pub member : r < limit ws → (start ≤ r) × (inSet ws r ≡ true)
+  pub lower : (u : ℕ) → start ≤ u → u < r → inSet ws u ≡ false

@@ -76,20 +76,35 @@ pub fn fill(set: &mut [u64], n: usize)
     }
 }
 
+// The lowest member from word `first` on, or the limit where there is none.
+fn next_in_words(set: &[u64], first: usize) -> usize
+    requires { ⌜ limit (now set) < 2 ^ 64 ⌝ }
+    ensures { λ r. ⌜ r ≡ firstOr (limit (now (set .entry))) (membersFrom (now (set .entry)) (64 * first)) ⌝ }
+{
+    for i in first..set.len() {
+        let word = set[i];
+        if word != 0 {
+            return 64 * i + u64::trailing_zeros(word) as usize;
+        }
+    }
+    64 * set.len()
+}
+
 // The lowest member from `start` on, or the limit where there is none.
 pub fn next_member(set: &[u64], start: usize) -> usize
     requires { ⌜ limit (now set) < 2 ^ 64 ⌝ }
     ensures { λ r. ⌜ r ≡ firstOr (limit (now (set .entry))) (membersFrom (now (set .entry)) start) ⌝ }
 {
-    let end = 64 * set.len();
-    let mut u = start;
-    while u < end {
-        if contains(set, u as u64) {
-            return u;
-        }
-        u += 1;
+    let i = start / 64;
+    if set.len() <= i {
+        return 64 * set.len();
     }
-    end
+    // The word of `start`, with the members below it shifted out.
+    let rest = set[i] >> (start % 64);
+    if rest != 0 {
+        return start + u64::trailing_zeros(rest) as usize;
+    }
+    next_in_words(set, i + 1)
 }
 
 // How many members the set has.
@@ -97,14 +112,11 @@ pub fn count(set: &[u64]) -> usize
     requires { ⌜ limit (now set) < 2 ^ 64 ⌝ }
     ensures { λ r. ⌜ r ≡ length (members (now (set .entry))) ⌝ }
 {
-    let end = 64 * set.len();
     let mut n: usize = 0;
-    let mut u: usize = 0;
-    while u < end {
-        if contains(set, u as u64) {
-            n += 1;
-        }
-        u += 1;
+    let mut i: usize = 0;
+    while i < set.len() {
+        n += u64::count_ones(set[i]) as usize;
+        i += 1;
     }
     n
 }

@@ -1,0 +1,65 @@
+-- What `next_member` answers, in the form to read: nothing else cites it.
+use Prim.Native.Nat.{ℕ, _≤_, _<_}
+use mathlib.Core.Bool.{false}
+use mathlib.Core.List.{List}
+use mathlib.Core.Logic.{⊎-elim}
+use mathlib.Core.Path.{_≡_, ap}
+use native.Mathlib.Omega.{arith}
+use lib.Dec.{ltb}
+use lib.ListN.{drop-of-length-le}
+use borrow.Author.Tests.{ltb-true, ltb-false}
+use Rattle.search.specs.Search.{firstOr}
+use Rattle.search.proofs.Bools.{contradict, either}
+use Rattle.search.proofs.Rising.{rising-first, rising-some, rising-none, rising-empty}
+use Rattle.bitset.specs.Bits.{inSet, limit, membersFrom, Next}
+use Rattle.bitset.proofs.BitSets.{in-past}
+
+module _ (ws : List ℕ) (start : ℕ) where
+  -- what `next_member` promises to answer
+  abbrev answer : ℕ
+  answer = firstOr (limit ws) (membersFrom ws start)
+
+  pub next-is : Next ws start answer
+  next-is = ⊎-elim (λ t. found (ltb-true answer (limit ws) t)) (λ t. none (ltb-false answer (limit ws) t)) (either (ltb answer (limit ws)))
+    where
+      found : answer < limit ws → Next ws start answer
+      found h =
+          let q = rising-first (inSet ws) (limit ws) start (limit ws) (rising-some (inSet ws) (limit ws) start h) in
+          record { within = omega arith; member = λ l. (q .from-i, q .holds); lower = q .before }
+
+      none : limit ws ≤ answer → Next ws start answer
+      none h =
+          let nothing = rising-none (inSet ws) (limit ws) start h in
+          let end : answer ≡ limit ws = ap (firstOr (limit ws)) (drop-of-length-le (membersFrom ws start) {i = 0} (omega arith)) in
+          record {
+            within = omega arith;
+            member = λ l. absurd (omega arith);
+            lower = λ u l m. rising-empty (inSet ws) (limit ws) start u nothing l (omega arith);
+          }
+
+  -- one such number is not above another
+  next-most : (q r : ℕ) → Next ws start q → Next ws start r → r ≤ q
+  next-most q r a b =
+      ⊎-elim (λ t.
+      let l = ltb-true q r t in
+      let m = a .member (omega (arith, b .within)) in
+      contradict (m .1) (b .lower q (m .0) l))
+      (λ t. ltb-false q r t)
+      (either (ltb q r))
+
+  -- no other number is
+  pub next-only : (r : ℕ) → Next ws start r → r ≡ answer
+  next-only r h = omega (arith, next-most answer r next-is h, next-most r answer h next-is)
+
+  -- "none exactly when nothing is free"
+  pub none-is-empty : answer ≡ limit ws → (u : ℕ) → start ≤ u → inSet ws u ≡ false
+  none-is-empty e u h =
+      ⊎-elim (λ t. next-is .lower u h (omega (arith, ltb-true u (limit ws) t)))
+      (λ t. in-past ws u (ltb-false u (limit ws) t))
+      (either (ltb u (limit ws)))
+
+  pub empty-is-none : ((u : ℕ) → start ≤ u → inSet ws u ≡ false) → answer ≡ limit ws
+  empty-is-none h =
+      ⊎-elim (λ t. let m = next-is .member (ltb-true answer (limit ws) t) in contradict (m .1) (h answer (m .0)))
+      (λ t. omega (arith, next-is .within, ltb-false answer (limit ws) t))
+      (either (ltb answer (limit ws)))
