@@ -5,6 +5,7 @@
 //! * [`model`] is the implementation.
 //! * [`ffi`] is the proved library's C interface.
 //! * [`rng`] and [`inputs`] make reproducible test inputs; [`settings`] are a run's.
+//! * [`timing`] is the benchmarks' clock.
 //!
 //! "01" in the comments is the paper with the exact rules, "02" the changes
 //! requested since, "Decision n" an entry of the list of how open places of 01
@@ -15,3 +16,4 @@ pub mod inputs;
 pub mod model;
 pub mod rng;
 pub mod settings;
+pub mod timing;

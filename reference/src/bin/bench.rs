@@ -9,18 +9,13 @@
 //! only make a batch slower. The medians are given as well.
 
 use std::hint::black_box;
-use std::time::{Duration, Instant};
+use std::time::Instant;
 
 use sumbilak_reference::ffi::{self, CAnswer, CReport, LOAD_WORDS};
 use sumbilak_reference::inputs::{free_units, mapped, Shape};
 use sumbilak_reference::model::{self, Answer, Report};
 use sumbilak_reference::rng::Rng;
-
-/// Turns of all rows; batches of each side in one row and turn; how long a
-/// batch is to take.
-const TURNS: usize = 60;
-const BATCHES: usize = 100;
-const BATCH: Duration = Duration::from_micros(50);
+use sumbilak_reference::timing::{self, least, median, BATCH, BATCHES, TURNS};
 
 /// The longest plan of the planner: "at most 35" steps of 16 bytes (01).
 const PLAN: usize = 35 * 16;
@@ -269,26 +264,15 @@ fn input(shape: &Shape, image: Vec<u8>) -> Input {
     }
 }
 
-/// Nanoseconds of one call in a batch.
-fn batch(run: Run, input: &Input, out: &mut Output, repeats: u32) -> f64 {
-    let start = Instant::now();
-    for _ in 0..repeats {
-        let run = black_box(run);
-        run(black_box(input), black_box(out));
-    }
-    start.elapsed().as_secs_f64() * 1e9 / f64::from(repeats)
+/// One call, of which nothing can be worked out ahead.
+fn call(run: Run, input: &Input, out: &mut Output) {
+    let run = black_box(run);
+    run(black_box(input), black_box(out));
 }
 
-/// Repeats that make a batch of the length wanted.
-fn repeats(run: Run, input: &Input, out: &mut Output) -> u32 {
-    let mut repeats = 1;
-    loop {
-        let took = batch(run, input, out, repeats) * f64::from(repeats);
-        if took >= BATCH.as_secs_f64() * 1e9 {
-            return repeats;
-        }
-        repeats *= 2;
-    }
+/// A batch of such calls.
+fn batch(run: Run, input: &Input, out: &mut Output, repeats: u32) -> f64 {
+    timing::batch(repeats, || call(run, input, out))
 }
 
 /// One line of the table.
@@ -311,7 +295,7 @@ impl<'a> Row<'a> {
         let refusals = [output.answer.number, output.report.number];
         assert_eq!(refusals, [0, 0], "{volume}: {}", call.name);
         assert!(output == other, "{volume}: {} differs", call.name);
-        let repeats = repeats(call.library, input, &mut output);
+        let repeats = timing::repeats(|| self::call(call.library, input, &mut output));
         Row {
             volume,
             call,
@@ -350,16 +334,6 @@ impl<'a> Row<'a> {
         let [library, model] = self.figures(measure);
         library / model
     }
-}
-
-fn least(batches: &[f64]) -> f64 {
-    batches.iter().copied().fold(f64::INFINITY, f64::min)
-}
-
-fn median(batches: &[f64]) -> f64 {
-    let mut sorted = batches.to_vec();
-    sorted.sort_by(f64::total_cmp);
-    sorted[sorted.len() / 2]
 }
 
 fn geometric_mean(ratios: impl Iterator<Item = f64>) -> f64 {
