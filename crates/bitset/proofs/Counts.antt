@@ -6,9 +6,9 @@ use mathlib.Core.Path.{_≡_, refl, ap, sym, _∙_}
 use native.Mathlib.Nat.{add-zero, suc-add}
 use native.Mathlib.Omega.{arith}
 use lib.Count.{ones, onesIn, trailingZeros, under, ones-step}
-use lib.ListN.{length, length-append, drop-of-length-le}
+use lib.ListN.{length, length-append}
 use Rattle.search.specs.Search.{from, keep, rising, firstOr}
-use Rattle.search.proofs.Members.{first-append}
+use Rattle.search.proofs.Members.{no-numbers, first-append}
 use Rattle.search.proofs.Rising.{rising-cut}
 use Rattle.bitset.specs.Bits.{bits}
 use Rattle.bitset.proofs.Digits.{digit}
@@ -67,7 +67,7 @@ module _ (f : ℕ → Bool) (n i k next x : ℕ) (here : i + k ≡ next) (within
   unfolding ones onesIn
   zero-rising z =
       let none : length (keep f (from i k)) ≡ 0 = sym (ones-bits f i k) ∙ ap ones (e ∙ z) in
-      cut ∙ ap (λ (us : List ℕ). us ++ rising f n next) (drop-of-length-le (keep f (from i k)) {i = 0} (omega arith))
+      cut ∙ ap (λ (us : List ℕ). us ++ rising f n next) (no-numbers (keep f (from i k)) none)
 
   pub trailing-rising : (width d : ℕ) → k ≤ width → (x ≡ 0 → ⊥) → firstOr d (rising f n i) ≡ i + trailingZeros width x
   trailing-rising width d l some =

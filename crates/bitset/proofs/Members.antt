@@ -1,13 +1,12 @@
 -- The members of a set of words are the numbers at which its test holds.
 use Prim.Native.Nat.{ℕ, _+_, _-_, _*_, _≤_, _<_}
 use mathlib.Core.Bool.{Bool, true, false}
-use mathlib.Core.Path.{_≡_, refl, ap, sym, _∙_, fun-ext}
+use mathlib.Core.Logic.{⊎-elim}
+use mathlib.Core.Path.{_≡_, ap, sym, _∙_, fun-ext}
 use native.Mathlib.Omega.{arith}
-use lib.Dec.{ltb}
 use lib.ListN.{length}
-use borrow.Author.Tests.{ltb-true, ltb-false}
 use Rattle.search.specs.Search.{below, keep, rising}
-use Rattle.search.proofs.Bools.{is-false}
+use Rattle.search.proofs.Bools.{is-false, less-or-not}
 use Rattle.search.proofs.Kept.{keep-ext, keep-short}
 use Rattle.search.proofs.Ranges.{member-below}
 use Rattle.bitset.specs.Bits.{bitSet, inSet, members}
@@ -27,10 +26,7 @@ members-below f k n h l =
 
 -- a set all of whose numbers have a bit contains just these
 pub in-whole : (f : ℕ → Bool) (n : ℕ) → ((u : ℕ) → f u ≡ true → u < 64 * n) → inSet (bitSet f n) ≡ f
-in-whole f n within = fun-ext (λ u. go u (ltb u (64 * n)) refl)
-  where
-    go : (u : ℕ) (t : Bool) → ltb u (64 * n) ≡ t → inSet (bitSet f n) u ≡ f u
-    go u true h = in-bitSet f n u (ltb-true u (64 * n) h)
-    go u false h =
-        let past = ltb-false u (64 * n) h in
-        past-bitSet f n u past ∙ sym (is-false (f u) (λ e. let low = within u e in omega arith))
+in-whole f n within = fun-ext λ u.
+    ⊎-elim (in-bitSet f n u)
+    (λ past. past-bitSet f n u past ∙ sym (is-false (f u) (λ e. let low = within u e in omega arith)))
+    (less-or-not u (64 * n))

@@ -5,11 +5,9 @@ use mathlib.Core.List.{List}
 use mathlib.Core.Logic.{⊎-elim}
 use mathlib.Core.Path.{_≡_, ap}
 use native.Mathlib.Omega.{arith}
-use lib.Dec.{ltb}
-use lib.ListN.{drop-of-length-le}
-use borrow.Author.Tests.{ltb-true, ltb-false}
 use Rattle.search.specs.Search.{firstOr}
-use Rattle.search.proofs.Bools.{contradict, either}
+use Rattle.search.proofs.Bools.{contradict, less-or-not}
+use Rattle.search.proofs.Members.{no-numbers}
 use Rattle.search.proofs.Rising.{rising-first, rising-some, rising-none, rising-empty}
 use Rattle.bitset.specs.Bits.{inSet, limit, membersFrom, Next}
 use Rattle.bitset.proofs.BitSets.{in-past}
@@ -20,7 +18,7 @@ module _ (ws : List ℕ) (start : ℕ) where
   answer = firstOr (limit ws) (membersFrom ws start)
 
   pub next-is : Next ws start answer
-  next-is = ⊎-elim (λ t. found (ltb-true answer (limit ws) t)) (λ t. none (ltb-false answer (limit ws) t)) (either (ltb answer (limit ws)))
+  next-is = ⊎-elim found none (less-or-not answer (limit ws))
     where
       found : answer < limit ws → Next ws start answer
       found h =
@@ -30,7 +28,7 @@ module _ (ws : List ℕ) (start : ℕ) where
       none : limit ws ≤ answer → Next ws start answer
       none h =
           let nothing = rising-none (inSet ws) (limit ws) start h in
-          let end : answer ≡ limit ws = ap (firstOr (limit ws)) (drop-of-length-le (membersFrom ws start) {i = 0} (omega arith)) in
+          let end : answer ≡ limit ws = ap (firstOr (limit ws)) (no-numbers (membersFrom ws start) nothing) in
           record {
             within = omega arith;
             member = λ l. absurd (omega arith);
@@ -40,12 +38,7 @@ module _ (ws : List ℕ) (start : ℕ) where
   -- one such number is not above another
   next-most : (q r : ℕ) → Next ws start q → Next ws start r → r ≤ q
   next-most q r a b =
-      ⊎-elim (λ t.
-      let l = ltb-true q r t in
-      let m = a .member (omega (arith, b .within)) in
-      contradict (m .1) (b .lower q (m .0) l))
-      (λ t. ltb-false q r t)
-      (either (ltb q r))
+      ⊎-elim (λ h. let m = a .member (omega (arith, b .within)) in contradict (m .1) (b .lower q (m .0) h)) (λ h. h) (less-or-not q r)
 
   -- no other number is
   pub next-only : (r : ℕ) → Next ws start r → r ≡ answer
@@ -53,13 +46,8 @@ module _ (ws : List ℕ) (start : ℕ) where
 
   -- "none exactly when nothing is free"
   pub none-is-empty : answer ≡ limit ws → (u : ℕ) → start ≤ u → inSet ws u ≡ false
-  none-is-empty e u h =
-      ⊎-elim (λ t. next-is .lower u h (omega (arith, ltb-true u (limit ws) t)))
-      (λ t. in-past ws u (ltb-false u (limit ws) t))
-      (either (ltb u (limit ws)))
+  none-is-empty e u h = ⊎-elim (λ l. next-is .lower u h (omega arith)) (in-past ws u) (less-or-not u (limit ws))
 
   pub empty-is-none : ((u : ℕ) → start ≤ u → inSet ws u ≡ false) → answer ≡ limit ws
-  empty-is-none h =
-      ⊎-elim (λ t. let m = next-is .member (ltb-true answer (limit ws) t) in contradict (m .1) (h answer (m .0)))
-      (λ t. omega (arith, next-is .within, ltb-false answer (limit ws) t))
-      (either (ltb answer (limit ws)))
+  empty-is-none none =
+      ⊎-elim (λ h. let m = next-is .member h in contradict (m .1) (none answer (m .0))) (λ h. omega (arith, next-is .within)) (less-or-not answer (limit ws))

@@ -1,12 +1,12 @@
 -- Booleans: what an equation on a connective says of its parts, and the connectives regrouped.
 -- (Units, associativity and double negation are mathlib.Core.Bool's and-true, and-false, and-assoc, or-false, or-assoc, Bool·not-not.)
-use Prim.Native.Nat.{ℕ}
+use Prim.Native.Nat.{ℕ, _≤_, _<_}
 use native.Mathlib.Decide.{ℕ-discrete}
 use mathlib.Core.Path.{_≡_, refl, sym, _∙_}
-use mathlib.Core.Logic.{_⊎_, inl, inr}
+use mathlib.Core.Logic.{_⊎_, inl, inr, ⊎-elim}
 use mathlib.Core.Bool.{Bool, true, false, not, _&&_, _||_, cond, true≢false, false≢true}
-use lib.Dec.{eqb}
-use borrow.Author.Tests.{eq-eqb, ne-eqb}
+use lib.Dec.{eqb, ltb}
+use borrow.Author.Tests.{eq-eqb, ne-eqb, ltb-true, ltb-false}
 
 -- ---- one Boolean
 
@@ -143,3 +143,9 @@ eqb-comm a b = go (ℕ-discrete a b)
     go : Dec (a ≡ b) → eqb a b ≡ eqb b a
     go (yes e) = eq-eqb a b e ∙ sym (eq-eqb b a (sym e))
     go (no n) = ne-eqb a b n ∙ sym (ne-eqb b a (λ e. n (sym e)))
+
+-- ---- the test of order
+
+-- a number is below another, or it is not
+pub less-or-not : (a b : ℕ) → (a < b) ⊎ (b ≤ a)
+less-or-not a b = ⊎-elim (λ t. inl (ltb-true a b t)) (λ t. inr (ltb-false a b t)) (either (ltb a b))

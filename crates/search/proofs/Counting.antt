@@ -5,13 +5,13 @@ use mathlib.Core.Path.{_≡_, refl, sym, ap, _∙_}
 use mathlib.Core.Logic.{⊎-elim}
 use mathlib.Core.Bool.{Bool, true, false}
 use mathlib.Core.List.{List, [], _∷_}
-use lib.ListN.{length, drop-of-length-le}
+use lib.ListN.{length}
 use lib.Dec.{eqb}
 use borrow.Author.Tests.{eqb-true, eqb-false, not-false}
 use Rattle.search.specs.Search.{below, keep, member, distinct}
 use Rattle.search.specs.Sets.{put, without}
 use Rattle.search.proofs.Bools.{contradict, either}
-use Rattle.search.proofs.Members.{member-nil, member-cons, member-head, member-tail}
+use Rattle.search.proofs.Members.{member-nil, member-cons, member-head, member-tail, no-numbers}
 use Rattle.search.proofs.Ranges.{length-from, below-member}
 use Rattle.search.proofs.Kept.{keep-nil, keep-cons-true, keep-cons-false, keep-ext, keep-all, keep-below-empty}
 use Rattle.search.proofs.Distinct.{distinct-head, distinct-tail, distinct-from}
@@ -106,5 +106,5 @@ pub covers : (n : ℕ) (xs : List ℕ) → distinct xs ≡ true → length xs �
 unfolding without
 covers n xs d e h j l =
     let others = keep (without (λ u. true) xs) (below n) in
-    let few : length others ≤ 0 = omega (arith, unlisted-exactly n xs d h) in
-    not-false (member j xs) (keep-below-empty (without (λ u. true) xs) n (drop-of-length-le others {i = 0} few) j l)
+    let none : length others ≡ 0 = omega (arith, unlisted-exactly n xs d h) in
+    not-false (member j xs) (keep-below-empty (without (λ u. true) xs) n (no-numbers others none) j l)

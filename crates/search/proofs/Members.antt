@@ -157,7 +157,10 @@ module _ (f : ℕ → Bool) (xs : List ℕ) (j : ℕ) where
   unfolding any
   any-end h = rw (drop-of-length-le xs h)
 
--- ---- the first number of a list
+-- ---- a list of no numbers, and the first number of a list
+
+pub no-numbers : (xs : List ℕ) → length xs ≡ 0 → xs ≡ []
+no-numbers xs e = drop-of-length-le xs {i = 0} (omega arith)
 
 pub first-member : (d : ℕ) (xs : List ℕ) → 0 < length xs → member (firstOr d xs) xs ≡ true
 first-member d [] h = absurd (omega arith)

@@ -10,9 +10,9 @@ use mathlib.Core.Bool.{Bool, true, false, _||_, cond, or-false}
 use mathlib.Core.List.{List, [], _∷_, _++_}
 use lib.ListN.{length}
 use lib.Dec.{eqb, ltb}
-use borrow.Author.Tests.{eqb-true, eqb-false, ltb-true, ltb-false}
+use borrow.Author.Tests.{eqb-true, eqb-false, ltb-false}
 use Rattle.search.specs.Search.{from, below, all, any, member, lowest, lowestFrom}
-use Rattle.search.proofs.Bools.{contradict, either}
+use Rattle.search.proofs.Bools.{contradict, either, less-or-not}
 use Rattle.search.proofs.Members.{member-nil, member-cons, member-head, member-tail, all-intro, any-at, any-intro, any-none, any-none-at, any-append}
 
 -- ---- the numbers from i on
@@ -183,6 +183,6 @@ lowest-holds f n h = lowestFrom-holds f 0 n (omega arith)
 pub lowest-is : (f : ℕ → Bool) (n i : ℕ) → i < n → f i ≡ true → ((j : ℕ) → j < i → f j ≡ false) → lowest f n ≡ i
 lowest-is f n i h e b =
     let l = lowest f n in
-    ⊎-elim (λ q. contradict (lowest-holds f n (let o = ltb-true l i q in omega arith)) (b l (ltb-true l i q)))
-    (λ q. ⊎-elim (λ r. contradict e (lowest-before f n i (ltb-true i l r))) (λ r. omega (arith, ltb-false l i q, ltb-false i l r)) (either (ltb i l)))
-    (either (ltb l i))
+    ⊎-elim (λ q. contradict (lowest-holds f n (omega arith)) (b l q))
+    (λ q. ⊎-elim (λ r. contradict e (lowest-before f n i r)) (λ r. omega arith) (less-or-not i l))
+    (less-or-not l i)

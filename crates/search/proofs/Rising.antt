@@ -7,14 +7,12 @@ use mathlib.Core.Path.{_≡_, refl, sym, ap, subst, _∙_}
 use mathlib.Core.Logic.{⊎-elim}
 use mathlib.Core.Bool.{Bool, true, false, cond}
 use mathlib.Core.List.{List, [], _∷_, _++_}
-use lib.ListN.{length, getD, take, set, drop-of-length-le}
+use lib.ListN.{length, getD, take, set}
 use lib.Seq.{sets, getD-take, length-take-le}
-use lib.Dec.{ltb}
-use borrow.Author.Tests.{ltb-true, ltb-false}
 use Rattle.search.specs.Search.{from, below, keep, member, rising, firstOr}
 use Rattle.search.specs.Sets.{Lowest}
-use Rattle.search.proofs.Bools.{contradict, either}
-use Rattle.search.proofs.Members.{member-place, member-getD, member-take}
+use Rattle.search.proofs.Bools.{contradict, either, less-or-not}
+use Rattle.search.proofs.Members.{member-place, member-getD, member-take, no-numbers}
 use Rattle.search.proofs.Ranges.{length-from, member-from, below-member}
 use Rattle.search.proofs.Kept.{keep-nil, keep-cons-true, keep-cons-false, keep-empty, keep-cut, keep-few, keep-member, member-keep}
 
@@ -94,7 +92,7 @@ module _ (f : ℕ → Bool) (n : ℕ) where
 
   pub rising-empty : (i u : ℕ) → length (rising f n i) ≡ 0 → i ≤ u → u < n → f u ≡ false
   unfolding rising
-  rising-empty i u e h l = keep-empty f i (n - i) (drop-of-length-le (rising f n i) {i = 0} (omega arith)) u h (omega arith)
+  rising-empty i u e h l = keep-empty f i (n - i) (no-numbers (rising f n i) e) u h (omega arith)
 
 -- one turn of a loop that stores the first k - j of xs from index j
 pub sets-take-step : (j k a : ℕ) (xs ys : List ℕ) → j < k → xs ≡ a ∷ ys → (l : List ℕ)
@@ -173,7 +171,6 @@ module _ (f : ℕ → Bool) where
       not-taken : (j : ℕ) → j < length xs → (v : ℕ) → getD xs j 0 ≡ v → member v (take k xs) ≡ false → k ≤ j
       not-taken j b v e q =
           ⊎-elim
-          (λ t. let l = ltb-true j k t in
-          contradict (ap (λ (w : ℕ). member w (take k xs)) (sym e ∙ sym (getD-take k xs j 0 l)) ∙ member-getD (take k xs) j (subst (λ (c : ℕ). j < c) (sym long) l)) q)
-          (λ t. ltb-false j k t)
-          (either (ltb j k))
+          (λ l. contradict (ap (λ (w : ℕ). member w (take k xs)) (sym e ∙ sym (getD-take k xs j 0 l)) ∙ member-getD (take k xs) j (subst (λ (c : ℕ). j < c) (sym long) l)) q)
+          (λ l. l)
+          (less-or-not j k)
