@@ -15,7 +15,7 @@ use Rattle.search.specs.Sets.{put}
 use Rattle.search.proofs.Mapping.{getD-map-below}
 use Rattle.search.proofs.Ranges.{length-from}
 use Rattle.bitset.specs.Bits.{bits, bitSet, inSet, limit, inserted, removed}
-use Rattle.bitset.proofs.Digits.{digit, digit-test, bits-ext, bits-test, bits-or, bits-out, bits-own}
+use Rattle.bitset.proofs.Digits.{digit-test, bits-ext, bits-test, bits-or, bits-out, bits-own}
 use Rattle.search.proofs.Taken.{put-other}
 
 -- ---- the words of a set
@@ -61,7 +61,7 @@ word-whole ws i small =
     rw (word, bit) at (word-from ws (64 * i) (rw word small)) ∙ div-one (getD ws i 0)
 
 -- all words of 64 bits are a set: that of the numbers in it
-pub as-set : (ws : List ℕ) → ((i : ℕ) → getD ws i 0 < 2 ^ 64) → ws ≡ bitSet (inSet ws) (length ws)
+as-set : (ws : List ℕ) → ((i : ℕ) → getD ws i 0 < 2 ^ 64) → ws ≡ bitSet (inSet ws) (length ws)
 as-set ws small = bitSet-intro ws (inSet ws) (length ws) refl (λ i k. sym (word-whole ws i (small i)))
 
 -- ---- what is in a set

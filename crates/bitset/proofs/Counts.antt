@@ -11,17 +11,15 @@ use Rattle.search.specs.Search.{from, keep, rising, firstOr}
 use Rattle.search.proofs.Members.{no-numbers, first-append}
 use Rattle.search.proofs.Rising.{rising-cut}
 use Rattle.bitset.specs.Bits.{bits}
-use Rattle.bitset.proofs.Digits.{digit}
+use Rattle.bitset.proofs.Digits.{digit, digit-le}
 
 -- ---- the lowest digit, and the number that the others make
 
 low-digit : (v : Bool) (x : ℕ) → (digit v + 2 * x) % 2 ≡ digit v
-low-digit true x = omega arith
-low-digit false x = omega arith
+low-digit v x = omega (arith, digit-le v)
 
 high-digits : (v : Bool) (x : ℕ) → (digit v + 2 * x) / 2 ≡ x
-high-digits true x = omega arith
-high-digits false x = omega arith
+high-digits v x = omega (arith, digit-le v)
 
 -- ---- k digits of a test
 

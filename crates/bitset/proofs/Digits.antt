@@ -18,7 +18,7 @@ use Rattle.search.proofs.Taken.{put-same, put-other}
 abbrev pub digit : Bool → ℕ
 digit v = cond v 1 0
 
-digit-le : (v : Bool) → digit v ≤ 1
+pub digit-le : (v : Bool) → digit v ≤ 1
 digit-le true = omega arith
 digit-le false = omega arith
 

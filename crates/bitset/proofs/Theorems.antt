@@ -9,7 +9,7 @@ use Rattle.search.specs.Search.{firstOr}
 use Rattle.search.proofs.Bools.{contradict, less-or-not}
 use Rattle.search.proofs.Members.{no-numbers}
 use Rattle.search.proofs.Rising.{rising-first, rising-some, rising-none, rising-empty}
-use Rattle.bitset.specs.Bits.{inSet, limit, membersFrom, Next}
+use Rattle.bitset.specs.Bits.{inSet, limit, membersFrom, NextMember}
 use Rattle.bitset.proofs.BitSets.{in-past}
 
 module _ (ws : List ℕ) (start : ℕ) where
@@ -17,15 +17,15 @@ module _ (ws : List ℕ) (start : ℕ) where
   abbrev answer : ℕ
   answer = firstOr (limit ws) (membersFrom ws start)
 
-  pub next-is : Next ws start answer
+  pub next-is : NextMember ws start answer
   next-is = ⊎-elim found none (less-or-not answer (limit ws))
     where
-      found : answer < limit ws → Next ws start answer
+      found : answer < limit ws → NextMember ws start answer
       found h =
           let q = rising-first (inSet ws) (limit ws) start (limit ws) (rising-some (inSet ws) (limit ws) start h) in
           record { within = omega arith; member = λ l. (q .from-i, q .holds); lower = q .before }
 
-      none : limit ws ≤ answer → Next ws start answer
+      none : limit ws ≤ answer → NextMember ws start answer
       none h =
           let nothing = rising-none (inSet ws) (limit ws) start h in
           let end : answer ≡ limit ws = ap (firstOr (limit ws)) (no-numbers (membersFrom ws start) nothing) in
@@ -36,12 +36,12 @@ module _ (ws : List ℕ) (start : ℕ) where
           }
 
   -- one such number is not above another
-  next-most : (q r : ℕ) → Next ws start q → Next ws start r → r ≤ q
+  next-most : (q r : ℕ) → NextMember ws start q → NextMember ws start r → r ≤ q
   next-most q r a b =
       ⊎-elim (λ h. let m = a .member (omega (arith, b .within)) in contradict (m .1) (b .lower q (m .0) h)) (λ h. h) (less-or-not q r)
 
   -- no other number is
-  pub next-only : (r : ℕ) → Next ws start r → r ≡ answer
+  pub next-only : (r : ℕ) → NextMember ws start r → r ≡ answer
   next-only r h = omega (arith, next-most answer r next-is h, next-most r answer h next-is)
 
   -- "none exactly when nothing is free"

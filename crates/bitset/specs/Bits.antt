@@ -41,8 +41,9 @@ membersFrom ws i = rising (inSet ws) (limit ws) i
 abbrev pub members : List ℕ → List ℕ
 members ws = membersFrom ws 0
 
--- r is the next member from `start` on, or the limit, "none exactly when nothing is free" (02, request 2): to read beside `firstOr (limit ws) (membersFrom ws start)`
-pub record Next (ws : List ℕ) (start r : ℕ) : Type 0 where
+-- r is the lowest member from `start` on or, where there is none, the limit: "none exactly when nothing is free" (02, request 2). No promise cites it: the
+-- theorems say that `firstOr (limit ws) (membersFrom ws start)`, which `next_member` answers, is such a number, and the only one.
+pub record NextMember (ws : List ℕ) (start r : ℕ) : Type 0 where
   pub within : r ≤ limit ws
   pub member : r < limit ws → (start ≤ r) × (inSet ws r ≡ true)
   pub lower : (u : ℕ) → start ≤ u → u < r → inSet ws u ≡ false

@@ -1,4 +1,4 @@
--- Booleans: what an equation on a connective says of its parts, and the connectives regrouped.
+-- Booleans: what an equation on a connective says of its parts, the connectives regrouped, and the tests of two numbers.
 -- (Units, associativity and double negation are mathlib.Core.Bool's and-true, and-false, and-assoc, or-false, or-assoc, Bool·not-not.)
 use Prim.Native.Nat.{ℕ, _≤_, _<_}
 use native.Mathlib.Decide.{ℕ-discrete}
@@ -144,7 +144,7 @@ eqb-comm a b = go (ℕ-discrete a b)
     go (yes e) = eq-eqb a b e ∙ sym (eq-eqb b a (sym e))
     go (no n) = ne-eqb a b n ∙ sym (ne-eqb b a (λ e. n (sym e)))
 
--- ---- the test of order
+-- ---- the test of order, as what it decides
 
 -- a number is below another, or it is not
 pub less-or-not : (a b : ℕ) → (a < b) ⊎ (b ≤ a)

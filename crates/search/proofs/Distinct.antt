@@ -7,10 +7,10 @@ use mathlib.Core.Logic.{_⊎_, inl, inr, ⊎-elim}
 use mathlib.Core.Bool.{Bool, true, false, not, Bool·not-not}
 use mathlib.Core.List.{List, [], _∷_, _++_}
 use lib.ListN.{length, getD, take}
-use lib.Dec.{eqb, ltb}
-use borrow.Author.Tests.{ltb-true, ltb-false, not-true}
+use lib.Dec.{eqb}
+use borrow.Author.Tests.{not-true}
 use Rattle.search.specs.Search.{from, any, keep, member, distinct, disjoint}
-use Rattle.search.proofs.Bools.{contradict, and-left, and-right, and-intro, or-none, or-false-right, not-of-false, is-false, either, eqb-comm}
+use Rattle.search.proofs.Bools.{contradict, and-left, and-right, and-intro, or-none, or-false-right, not-of-false, is-false, either, eqb-comm, less-or-not}
 use Rattle.search.proofs.Members.{member-nil, member-cons, member-head, member-tail, member-place, member-getD, member-take, member-append, all-at, all-intro, all-not, any-ext, any-swap}
 use Rattle.search.proofs.Ranges.{member-from}
 use Rattle.search.proofs.Kept.{keep-nil, keep-cons-true, keep-cons-false, member-keep}
@@ -43,9 +43,9 @@ distinct-at (x ∷ xs) e (suc i) (suc j) h l p = distinct-at xs (distinct-tail x
 -- in a list with no number twice, a number has one place
 pub distinct-place : (xs : List ℕ) → distinct xs ≡ true → (i j : ℕ) → i < length xs → j < length xs → getD xs i 0 ≡ getD xs j 0 → i ≡ j
 distinct-place xs d i j h l e =
-    ⊎-elim (λ q. absurd (distinct-at xs d i j (ltb-true i j q) l e))
-    (λ q. ⊎-elim (λ r. absurd (distinct-at xs d j i (ltb-true j i r) h (sym e))) (λ r. omega (arith, ltb-false i j q, ltb-false j i r)) (either (ltb j i)))
-    (either (ltb i j))
+    ⊎-elim (λ q. absurd (distinct-at xs d i j q l e))
+    (λ q. ⊎-elim (λ r. absurd (distinct-at xs d j i r h (sym e))) (λ r. omega arith) (less-or-not j i))
+    (less-or-not i j)
 
 -- a list of which no two places hold the same number
 pub distinct-intro : (xs : List ℕ) → ((i j : ℕ) → i < j → j < length xs → getD xs i 0 ≡ getD xs j 0 → ⊥) → distinct xs ≡ true

@@ -1,4 +1,4 @@
--- Lists of numbers: what `member`, `all` and `any` say of the numbers of a list, and how they go along a list that a loop walks.
+-- Lists of numbers: what `member`, `all` and `any` say of the numbers of a list, how they go along a list that a loop walks, and the first number.
 use Prim.Native.Nat.{ℕ, zero, suc, _+_, _≤_, _<_}
 use native.Mathlib.Omega.{arith}
 use native.Mathlib.Nat.{not-suc-le-zero}

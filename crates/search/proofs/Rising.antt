@@ -1,4 +1,4 @@
--- The members of a set in rising order: one step, the end, the first of them, and the k lowest.
+-- The members of a set in rising order: one step, many at once, the end, the first of them, and the k lowest.
 use Prim.Native.Nat.{ℕ, zero, suc, _+_, _-_, _≤_, _<_}
 use native.Mathlib.Nat.{le-refl, le-trans, eq-or-lt-of-le, sub-zero}
 use native.Mathlib.Numerals.{add-one}
