@@ -10,10 +10,10 @@
 use std::env;
 use std::ffi::{c_char, c_int, c_void, CStr, CString};
 use std::hint::black_box;
-use std::mem::transmute;
+use std::mem::transmute_copy;
 
 use sumbilak_reference::ffi::{CAnswer, CReport, LOAD_WORDS};
-use sumbilak_reference::inputs::{fresh, put_entry, put_word, Shape};
+use sumbilak_reference::inputs::{free_units, fresh, put_entry, put_word, Shape};
 use sumbilak_reference::timing::{batch, least, repeats, BATCH, BATCHES, TURNS};
 
 extern "C" {
@@ -40,15 +40,18 @@ fn open(path: &str) -> *mut c_void {
     found(unsafe { dlopen(name.as_ptr(), RTLD_NOW) }, path)
 }
 
-fn symbol(object: *mut c_void, name: &str) -> *mut c_void {
+/// The function of that name, of the type F.
+///
+/// # Safety
+/// The object has it, with that type.
+unsafe fn symbol<F: Copy>(object: *mut c_void, name: &str) -> F {
     let text = CString::new(name).expect("a name");
-    // SAFETY: the object stays open.
-    found(unsafe { dlsym(object, text.as_ptr()) }, name)
+    let pointer = found(dlsym(object, text.as_ptr()), name);
+    transmute_copy(&pointer)
 }
 
 /// The functions of one side, as `include/sumbilak.h` and `before-after` declare
 /// them.
-#[derive(Clone, Copy)]
 struct Side {
     load: unsafe extern "C" fn(*const u8, usize, *mut u64, usize) -> CAnswer,
     plan_write: unsafe extern "C" fn(*const u8, usize, u64, u64, *mut u8, usize) -> CAnswer,
@@ -64,12 +67,12 @@ impl Side {
         // SAFETY: each symbol has the type that it is declared with.
         unsafe {
             Side {
-                load: transmute(symbol(archive, "sumbilak_load")),
-                plan_write: transmute(symbol(archive, "sumbilak_plan_write")),
-                report: transmute(symbol(archive, "sumbilak_report")),
-                alarm_count: transmute(symbol(archive, "sumbilak_alarm_count")),
-                next_member: transmute(symbol(sets, "sets_next_member")),
-                count: transmute(symbol(sets, "sets_count")),
+                load: symbol(archive, "sumbilak_load"),
+                plan_write: symbol(archive, "sumbilak_plan_write"),
+                report: symbol(archive, "sumbilak_report"),
+                alarm_count: symbol(archive, "sumbilak_alarm_count"),
+                next_member: symbol(sets, "sets_next_member"),
+                count: symbol(sets, "sets_count"),
             }
         }
     }
@@ -108,6 +111,8 @@ fn input(name: &'static str, free: fn(u64) -> bool, member: fn(u64) -> bool) -> 
             put_word(&mut image, SHAPE.word_at(chunk, word), unit);
         }
     }
+    let rest: Vec<u64> = (0..SHAPE.n).filter(|&unit| free(unit)).collect();
+    assert_eq!(free_units(&SHAPE, &image), rest, "{name}");
     let word = |at: u64| {
         (0..64)
             .filter(|bit| member(64 * at + bit))
@@ -119,7 +124,7 @@ fn input(name: &'static str, free: fn(u64) -> bool, member: fn(u64) -> bool) -> 
 }
 
 /// What a call answers and writes.
-#[derive(Clone, Default, Debug, PartialEq)]
+#[derive(Default, PartialEq)]
 struct Output {
     answer: Option<CAnswer>,
     report: Option<CReport>,
@@ -198,7 +203,7 @@ struct Row<'a> {
     call: &'static str,
     run: Run,
     input: &'a Input,
-    repeats: u32,
+    repeats: [u32; 2],
     batches: [Vec<f64>; 2],
 }
 
@@ -225,18 +230,18 @@ impl<'a> Row<'a> {
             call,
             run,
             input,
-            repeats: repeats(|| once(run, &sides[0], input, &mut out)),
+            repeats: [0, 1].map(|side| repeats(|| once(run, &sides[side], input, &mut out))),
             batches: Default::default(),
         }
     }
 
     fn turn(&mut self, sides: &[Side; 2]) {
+        let Row { run, input, .. } = *self;
         let mut out = Output::new();
         for _ in 0..BATCHES {
-            for (side, batches) in sides.iter().zip(&mut self.batches) {
-                batches.push(batch(self.repeats, || {
-                    once(self.run, side, self.input, &mut out)
-                }));
+            for (side, repeats) in self.repeats.into_iter().enumerate() {
+                let took = batch(repeats, || once(run, &sides[side], input, &mut out));
+                self.batches[side].push(took);
             }
         }
     }
@@ -247,18 +252,24 @@ impl<'a> Row<'a> {
     }
 }
 
-/// The rows of these calls on each input, measured.
-fn measure<'a>(
-    sides: &[Side; 2],
-    inputs: &'a [Input],
-    calls: &[(&'static str, Run)],
-) -> Vec<Row<'a>> {
+/// Measures these calls on each input, and prints a table.
+fn table(what: &str, sides: &[Side; 2], inputs: &[Input], calls: &[(&'static str, Run)]) {
     let row = |input| calls.iter().map(move |&call| Row::new(sides, input, call));
     let mut rows: Vec<Row> = inputs.iter().flat_map(row).collect();
     for _ in 0..TURNS {
         rows.iter_mut().for_each(|row| row.turn(sides));
     }
-    rows
+    println!("| {what} | call | before ns | after ns | gained ns |");
+    println!("|---|---|---:|---:|---:|");
+    for row in rows {
+        let [before, after] = row.figures();
+        println!(
+            "| {} | {} | {before:.1} | {after:.1} | {:.0} |",
+            row.input.name,
+            row.call,
+            before - after
+        );
+    }
 }
 
 fn main() {
@@ -270,43 +281,19 @@ fn main() {
         Side::new(archive_before, sets_before),
         Side::new(archive_after, sets_after),
     ];
-    let inputs = [
-        input(
-            "lowest free unit in the last word",
-            |unit| unit >= 4096,
-            |u| u >= 4544,
-        ),
-        input(
-            "one free unit in each word",
-            |unit| unit % 64 == 63,
-            |u| u % 64 == 63,
-        ),
-    ];
-
-    println!("| set of 72 words | search | before ns | after ns | before / after |");
-    println!("|---|---|---:|---:|---:|");
-    for row in measure(&sides, &inputs, &SET_CALLS) {
-        let [before, after] = row.figures();
-        let ratio = before / after;
-        println!(
-            "| {} | {} | {before:.1} | {after:.1} | {ratio:.1} |",
-            row.input.name, row.call
-        );
-    }
-
-    println!("\n| volume | call | before ns | after ns | less load, before | less load, after |");
-    println!("|---|---|---:|---:|---:|---:|");
-    let rows = measure(&sides, &inputs, &VOLUME_CALLS);
-    for rows in rows.chunks(VOLUME_CALLS.len()) {
-        let load = rows[0].figures();
-        for row in rows {
-            let [before, after] = row.figures();
-            let [more_before, more_after] = [before - load[0], after - load[1]];
-            println!(
-                "| {} | {} | {before:.1} | {after:.1} | {more_before:.1} | {more_after:.1} |",
-                row.input.name, row.call
-            );
-        }
-    }
+    let last_word = input(
+        "lowest free unit in the last word",
+        |unit| unit >= 4096,
+        |number| number >= 4544,
+    );
+    let each_word = input(
+        "one free unit in each word",
+        |unit| unit % 64 == 63,
+        |number| number % 64 == 63,
+    );
+    let inputs = [last_word, each_word];
+    table("set of 72 words", &sides, &inputs, &SET_CALLS);
+    println!();
+    table("volume", &sides, &inputs, &VOLUME_CALLS);
     println!("\n{} batches a side of about {BATCH:?}", TURNS * BATCHES);
 }

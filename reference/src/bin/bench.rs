@@ -265,14 +265,14 @@ fn input(shape: &Shape, image: Vec<u8>) -> Input {
 }
 
 /// One call, of which nothing can be worked out ahead.
-fn call(run: Run, input: &Input, out: &mut Output) {
+fn once(run: Run, input: &Input, out: &mut Output) {
     let run = black_box(run);
     run(black_box(input), black_box(out));
 }
 
 /// A batch of such calls.
 fn batch(run: Run, input: &Input, out: &mut Output, repeats: u32) -> f64 {
-    timing::batch(repeats, || call(run, input, out))
+    timing::batch(repeats, || once(run, input, out))
 }
 
 /// One line of the table.
@@ -295,7 +295,7 @@ impl<'a> Row<'a> {
         let refusals = [output.answer.number, output.report.number];
         assert_eq!(refusals, [0, 0], "{volume}: {}", call.name);
         assert!(output == other, "{volume}: {} differs", call.name);
-        let repeats = timing::repeats(|| self::call(call.library, input, &mut output));
+        let repeats = timing::repeats(|| once(call.library, input, &mut output));
         Row {
             volume,
             call,
