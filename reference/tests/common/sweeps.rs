@@ -1,5 +1,6 @@
 //! Small scopes gone through completely: every case of a kind on the worked
-//! example of 01 or on small volumes, without chance.
+//! example of 01, on small volumes or, for what is free, on the largest one,
+//! without chance.
 
 use sumbilak_reference::inputs::{self, Fields, Shape, FENCE, TWO_32, X, X32};
 use sumbilak_reference::model;
@@ -17,7 +18,7 @@ const SHAPE: Shape = Shape {
 pub type Sweep = fn(&mut dyn FnMut(Case));
 
 /// Every sweep, by name.
-pub const ALL: [(&str, Sweep); 11] = [
+pub const ALL: [(&str, Sweep); 14] = [
     ("format and load, around every limit", limits),
     ("load, every value of every byte", load_bytes),
     ("load, two words of the tables", load_words),
@@ -29,6 +30,9 @@ pub const ALL: [(&str, Sweep); 11] = [
     ("carry_write, every step count", carries),
     ("plan_write and plan_discard, every output", outputs),
     ("report, every number of units of each chunk", reports),
+    ("plan_write and report, every lowest free unit", lowest_unit),
+    ("plan_write and report, free units apart", units_apart),
+    ("plan_write and load, every lowest free map", lowest_map),
 ];
 
 fn case(call: Call, image: Vec<u8>) -> Case {
@@ -357,4 +361,143 @@ fn volume(shape: &Shape, units: &[u64], dead: u64) -> Vec<u8> {
         next += count;
     }
     image
+}
+
+/// The lowest free unit at every place, all units below it held. Above it all
+/// are free, or all but the next 63 (near the end fewer), so that the second
+/// one is in the next word, or none.
+fn lowest_unit(give: &mut dyn FnMut(Case)) {
+    for lowest in 0..=4096u64 {
+        let all_above = with_free(&largest(4608), |unit| unit >= lowest);
+        give(plan(&all_above, 1));
+        if lowest % 64 > 48 {
+            // 16 units go over the end of the word.
+            give(plan(&all_above, 16));
+        }
+        let next = 4097.min(lowest + 64);
+        let some_above = with_free(&largest(4608), |unit| unit == lowest || unit >= next);
+        give(plan(&some_above, 16));
+        let alone = with_free(&largest(16.max(lowest + 1)), |unit| unit == lowest);
+        give(plan(&alone, 1));
+        give(plan(&alone, 2));
+        // Each of the first 64 words is met, and each place in a word.
+        if lowest.is_multiple_of(61) {
+            let none = with_free(&largest(16.max(lowest)), |_| false);
+            give(plan(&none, 1));
+            counts(&all_above, 4608 - lowest, give);
+            counts(&alone, 1, give);
+            counts(&none, 0, give);
+        }
+    }
+}
+
+/// 4,096 units held, the free ones at equal distances, from one place to four
+/// words of 64. Then few of them, and writes that take all of them or more.
+fn units_apart(give: &mut dyn FnMut(Case)) {
+    let apart = |count: u64, first: u64, distance: u64| {
+        let free: Vec<u64> = (0..count).map(|at| first + at * distance).collect();
+        with_free(&largest(4096 + count), |unit| free.contains(&unit))
+    };
+    for distance in [1, 32, 63, 64, 65, 127, 128, 129, 192, 256] {
+        for place in 0..64 {
+            // From each place of the first word on, to the end or 64 of them.
+            let count = 64.min(4032 / distance + 1);
+            let image = apart(count, place, distance);
+            give(plan(&image, 16));
+            if distance == 64 {
+                counts(&image, count, give);
+            }
+            // Up to each of the last 64 places, just as many as are needed.
+            let image = apart(16, 4111 - place - 15 * distance, distance);
+            give(plan(&image, 16));
+        }
+    }
+    for distance in [65, 257] {
+        for place in [0, 37, 63] {
+            for count in 0..=16 {
+                let image = apart(count, place, distance);
+                for k in count.max(1)..=16 {
+                    give(plan(&image, k));
+                }
+                counts(&image, count, give);
+            }
+        }
+    }
+}
+
+/// The lowest free map at every place, all maps below it named. Above it all
+/// are free, or as few as M and C allow, or none. The units are the last ones.
+fn lowest_map(give: &mut dyn FnMut(Case)) {
+    for lowest in 0..=256 {
+        let below: Vec<u64> = (0..lowest).collect();
+        let others: Vec<u64> = (0..=256).filter(|&map| map != lowest).collect();
+        let c = lowest.max(1);
+        for (c, m, maps) in [
+            (256, 288, &below),
+            (256, 288, &others),
+            (256, 257, &others),
+            (c, c + 1, &below),
+        ] {
+            let n = 16 * m;
+            let shape = Shape { p: 16, c, m, n };
+            let units: Vec<u64> = (0..n).rev().take(maps.len()).collect();
+            let image = holding(&shape, &units, maps);
+            give(plan(&image, 1));
+            give(load(image));
+        }
+    }
+}
+
+/// The largest shape, with so many units. Its chunks hold at most 4,096.
+fn largest(n: u64) -> Shape {
+    Shape {
+        p: 16,
+        c: 256,
+        m: 288,
+        n,
+    }
+}
+
+/// A volume that holds all units but the free ones, by as few maps as can be.
+fn with_free(shape: &Shape, free: impl Fn(u64) -> bool) -> Vec<u8> {
+    let units: Vec<u64> = (0..shape.n).filter(|&unit| !free(unit)).collect();
+    let maps: Vec<u64> = (0..(units.len() as u64).div_ceil(shape.p)).collect();
+    holding(shape, &units, &maps)
+}
+
+/// A volume that holds these units by these maps: the units in equal parts, a
+/// part for each map; the maps named by the chunks from the last one down.
+fn holding(shape: &Shape, units: &[u64], maps: &[u64]) -> Vec<u8> {
+    let (least, most) = (maps.len(), maps.len() * shape.p as usize);
+    assert!((least..=most).contains(&units.len()), "1 to P for each map");
+    let mut image = inputs::blank(shape);
+    for (at, &map) in maps.iter().enumerate() {
+        inputs::put_entry(&mut image, shape.c - 1 - at as u64, map);
+        let part = units.len() * at / maps.len()..units.len() * (at + 1) / maps.len();
+        for (word, &unit) in (0..).zip(&units[part]) {
+            inputs::put_word(&mut image, shape.word_at(map, word), unit);
+        }
+    }
+    image
+}
+
+/// A write of k units to chunk 0, which is unmapped where any chunk is.
+fn plan(image: &[u8], k: u64) -> Case {
+    let call = Call::PlanWrite {
+        chunk: 0,
+        size: k * model::UNIT,
+    };
+    Case {
+        out: vec![0xA5; 16 * 35],
+        ..case(call, image.to_vec())
+    }
+}
+
+/// The free sets, and what depends on the count of free units.
+fn counts(image: &[u8], free: u64, give: &mut dyn FnMut(Case)) {
+    give(load(image.to_vec()));
+    give(case(Call::Report, image.to_vec()));
+    for units in [free, free + 1] {
+        give(case(Call::AlarmCount { units }, image.to_vec()));
+    }
 }
