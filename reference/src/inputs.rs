@@ -186,6 +186,29 @@ pub fn free_units(shape: &Shape, image: &[u8]) -> Vec<u64> {
     (0..shape.n).filter(|&unit| free[unit as usize]).collect()
 }
 
+/// A volume that holds all units but the free ones, by as few maps as can be.
+pub fn with_free(shape: &Shape, free: impl Fn(u64) -> bool) -> Vec<u8> {
+    let units: Vec<u64> = (0..shape.n).filter(|&unit| !free(unit)).collect();
+    let maps: Vec<u64> = (0..(units.len() as u64).div_ceil(shape.p)).collect();
+    holding(shape, &units, &maps)
+}
+
+/// A volume that holds these units by these maps: the units in equal parts, a
+/// part for each map; the maps named by the chunks from the last one down.
+pub fn holding(shape: &Shape, units: &[u64], maps: &[u64]) -> Vec<u8> {
+    let (least, most) = (maps.len(), maps.len() * shape.p as usize);
+    assert!((least..=most).contains(&units.len()), "1 to P for each map");
+    let mut image = blank(shape);
+    for (at, &map) in maps.iter().enumerate() {
+        put_entry(&mut image, shape.c - 1 - at as u64, map);
+        let part = units.len() * at / maps.len()..units.len() * (at + 1) / maps.len();
+        for (word, &unit) in (0..).zip(&units[part]) {
+            put_word(&mut image, shape.word_at(map, word), unit);
+        }
+    }
+    image
+}
+
 /// A compressed size that a write may have; whole units and one past them come
 /// up often.
 pub fn good_size(rng: &mut Rng, shape: &Shape) -> u64 {

@@ -13,7 +13,7 @@ use std::hint::black_box;
 use std::mem::transmute_copy;
 
 use sumbilak_reference::ffi::{CAnswer, CReport, LOAD_WORDS};
-use sumbilak_reference::inputs::{free_units, fresh, put_entry, put_word, Shape};
+use sumbilak_reference::inputs::{with_free, Shape};
 use sumbilak_reference::timing::{batch, least, repeats, BATCH, BATCHES, TURNS};
 
 extern "C" {
@@ -91,7 +91,7 @@ const SHAPE: Shape = Shape {
 const SET_WORDS: usize = 72;
 
 /// The chunk that is written, and the longest plan: 35 steps of 16 bytes.
-const CHUNK: u64 = 255;
+const CHUNK: u64 = 0;
 const PLAN: usize = 35 * 16;
 
 struct Input {
@@ -103,16 +103,7 @@ struct Input {
 /// The volume whose chunks hold every unit that is not free, and the set of 72
 /// words in which the numbers that pass the test are.
 fn input(name: &'static str, free: fn(u64) -> bool, member: fn(u64) -> bool) -> Input {
-    let mut image = fresh(&SHAPE);
-    let held: Vec<u64> = (0..SHAPE.n).filter(|&unit| !free(unit)).collect();
-    for (chunk, units) in (0..SHAPE.c).zip(held.chunks(SHAPE.p as usize)) {
-        put_entry(&mut image, chunk, chunk);
-        for (word, &unit) in (0..).zip(units) {
-            put_word(&mut image, SHAPE.word_at(chunk, word), unit);
-        }
-    }
-    let rest: Vec<u64> = (0..SHAPE.n).filter(|&unit| free(unit)).collect();
-    assert_eq!(free_units(&SHAPE, &image), rest, "{name}");
+    let image = with_free(&SHAPE, free);
     let word = |at: u64| {
         (0..64)
             .filter(|bit| member(64 * at + bit))

@@ -368,21 +368,21 @@ fn volume(shape: &Shape, units: &[u64], dead: u64) -> Vec<u8> {
 /// one is in the next word, or none.
 fn lowest_unit(give: &mut dyn FnMut(Case)) {
     for lowest in 0..=4096u64 {
-        let all_above = with_free(&largest(4608), |unit| unit >= lowest);
+        let all_above = inputs::with_free(&largest(4608), |unit| unit >= lowest);
         give(plan(&all_above, 1));
         if lowest % 64 > 48 {
             // 16 units go over the end of the word.
             give(plan(&all_above, 16));
         }
         let next = 4097.min(lowest + 64);
-        let some_above = with_free(&largest(4608), |unit| unit == lowest || unit >= next);
+        let some_above = inputs::with_free(&largest(4608), |unit| unit == lowest || unit >= next);
         give(plan(&some_above, 16));
-        let alone = with_free(&largest(16.max(lowest + 1)), |unit| unit == lowest);
+        let alone = inputs::with_free(&largest(16.max(lowest + 1)), |unit| unit == lowest);
         give(plan(&alone, 1));
         give(plan(&alone, 2));
         // Each of the first 64 words is met, and each place in a word.
         if lowest.is_multiple_of(61) {
-            let none = with_free(&largest(16.max(lowest)), |_| false);
+            let none = inputs::with_free(&largest(16.max(lowest)), |_| false);
             give(plan(&none, 1));
             counts(&all_above, 4608 - lowest, give);
             counts(&alone, 1, give);
@@ -396,7 +396,7 @@ fn lowest_unit(give: &mut dyn FnMut(Case)) {
 fn units_apart(give: &mut dyn FnMut(Case)) {
     let apart = |count: u64, first: u64, distance: u64| {
         let free: Vec<u64> = (0..count).map(|at| first + at * distance).collect();
-        with_free(&largest(4096 + count), |unit| free.contains(&unit))
+        inputs::with_free(&largest(4096 + count), |unit| free.contains(&unit))
     };
     for distance in [1, 32, 63, 64, 65, 127, 128, 129, 192, 256] {
         for place in 0..64 {
@@ -441,7 +441,7 @@ fn lowest_map(give: &mut dyn FnMut(Case)) {
             let n = 16 * m;
             let shape = Shape { p: 16, c, m, n };
             let units: Vec<u64> = (0..n).rev().take(maps.len()).collect();
-            let image = holding(&shape, &units, maps);
+            let image = inputs::holding(&shape, &units, maps);
             give(plan(&image, 1));
             give(load(image));
         }
@@ -456,29 +456,6 @@ fn largest(n: u64) -> Shape {
         m: 288,
         n,
     }
-}
-
-/// A volume that holds all units but the free ones, by as few maps as can be.
-fn with_free(shape: &Shape, free: impl Fn(u64) -> bool) -> Vec<u8> {
-    let units: Vec<u64> = (0..shape.n).filter(|&unit| !free(unit)).collect();
-    let maps: Vec<u64> = (0..(units.len() as u64).div_ceil(shape.p)).collect();
-    holding(shape, &units, &maps)
-}
-
-/// A volume that holds these units by these maps: the units in equal parts, a
-/// part for each map; the maps named by the chunks from the last one down.
-fn holding(shape: &Shape, units: &[u64], maps: &[u64]) -> Vec<u8> {
-    let (least, most) = (maps.len(), maps.len() * shape.p as usize);
-    assert!((least..=most).contains(&units.len()), "1 to P for each map");
-    let mut image = inputs::blank(shape);
-    for (at, &map) in maps.iter().enumerate() {
-        inputs::put_entry(&mut image, shape.c - 1 - at as u64, map);
-        let part = units.len() * at / maps.len()..units.len() * (at + 1) / maps.len();
-        for (word, &unit) in (0..).zip(&units[part]) {
-            inputs::put_word(&mut image, shape.word_at(map, word), unit);
-        }
-    }
-    image
 }
 
 /// A write of k units to chunk 0, which is unmapped where any chunk is.
