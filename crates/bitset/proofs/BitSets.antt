@@ -6,8 +6,10 @@ use mathlib.Core.Path.{_≡_, refl, ap, sym, _∙_}
 use native.Mathlib.Decide.{ℕ-discrete}
 use native.Mathlib.Nat.{zero-div, div-one, add-sub-cancel}
 use native.Mathlib.Omega.{arith}
+use mathlib.Core.Logic.{_≢_, ⊎-elim}
 use lib.Bits.{bitOr}
-use lib.ListN.{length, getD, set, length-map, length-set, List·getD-eq-default}
+use lib.ListN.{length, getD, set, replicate, length-replicate, getD-replicate, length-map, length-set, List·getD-eq-default}
+use lib.Dec.{eqb}
 use lib.Pow.{shr-lt, shr-shr}
 use lib.Seq.{ext-getD, getD-set-same, getD-set-other}
 use Rattle.search.specs.Search.{below}
@@ -15,8 +17,10 @@ use Rattle.search.specs.Sets.{put}
 use Rattle.search.proofs.Mapping.{getD-map-below}
 use Rattle.search.proofs.Ranges.{length-from}
 use Rattle.bitset.specs.Bits.{bits, bitSet, inSet, limit, inserted, removed}
-use Rattle.bitset.proofs.Digits.{digit-test, bits-ext, bits-test, bits-or, bits-out, bits-own}
-use Rattle.search.proofs.Taken.{put-other}
+use Rattle.bitset.proofs.Digits.{digit-test, bits-ext, bits-test, bits-or, bits-out, bits-none, bits-own}
+use borrow.Author.Tests.{eqb-true, eqb-false}
+use Rattle.search.proofs.Bools.{either}
+use Rattle.search.proofs.Taken.{put-same, put-other}
 
 -- ---- the words of a set
 
@@ -39,6 +43,12 @@ pub bitSet-ext : (f g : ℕ → Bool) (n : ℕ) → ((y : ℕ) → y < 64 * n �
 bitSet-ext f g n h =
     bitSet-intro (bitSet f n) g n (length-bitSet f n) λ i k.
     bitSet-word f n i k ∙ bits-ext f g (64 * i) 64 (λ y a b. h y (omega arith))
+
+-- words of 0 are the empty set
+pub bitSet-none : (n : ℕ) → replicate n 0 ≡ bitSet (λ u. false) n
+bitSet-none n =
+    bitSet-intro (replicate n 0) (λ u. false) n (length-replicate {A = ℕ} n 0) λ i k.
+    getD-replicate n i 0 0 k ∙ sym (bits-none (λ u. false) (64 * i) 64 (λ y a b. refl))
 
 -- ---- the digits of a word of 64 bits
 
@@ -123,7 +133,6 @@ put-set : (f : ℕ → Bool) (n u : ℕ) (v : Bool) → bitSet (put (inSet (bitS
 unfolding put
 put-set f n u v = rw (length-bitSet f n) (bitSet-ext _ _ n (λ y h. rw (in-bitSet f n y h)))
 
--- stands beside `removed-set` for the reader: no caller puts a number in yet
 pub inserted-set : (f : ℕ → Bool) (n u : ℕ) → inserted (bitSet f n) u ≡ bitSet (put f u true) n
 unfolding inserted
 inserted-set f n u = put-set f n u true
@@ -131,6 +140,18 @@ inserted-set f n u = put-set f n u true
 pub removed-set : (f : ℕ → Bool) (n u : ℕ) → removed (bitSet f n) u ≡ bitSet (put f u false) n
 unfolding removed
 removed-set f n u = put-set f n u false
+
+-- two sets that differ at u alone: not even there, or there because u was put in
+module _ (f g : ℕ → Bool) (n u : ℕ) (h : (y : ℕ) → y ≢ u → f y ≡ g y) where
+  pub set-kept : f u ≡ g u → bitSet f n ≡ bitSet g n
+  set-kept e = bitSet-ext f g n (λ y l. ⊎-elim (λ q. let w = eqb-true y u q in ap f w ∙ e ∙ ap g (sym w)) (λ q. h y (eqb-false y u q)) (either (eqb y u)))
+
+  pub set-with : g u ≡ true → inserted (bitSet f n) u ≡ bitSet g n
+  set-with e =
+      inserted-set f n u
+      ∙ bitSet-ext (put f u true) g n (λ y l. ⊎-elim
+      (λ q. let w = eqb-true y u q in ap (put f u true) w ∙ put-same f u true ∙ sym e ∙ ap g (sym w))
+      (λ q. let w = eqb-false y u q in put-other f u true y w ∙ h y w) (either (eqb y u)))
 
 -- ---- as `insert` and `remove` leave the words
 

@@ -6,8 +6,8 @@ use mathlib.Core.Bool.{Bool, true, false, cond}
 use mathlib.Core.List.{List}
 use native.Mathlib.Omega.{arith}
 use borrow.Author.Tests.{ltb-true, ltb-false, lt-ltb, le-ltb}
+use Rattle.words.specs.Words.{Bytes}
 use Rattle.search.proofs.Bools.{contradict, is-false}
-use Rattle.words.proofs.Numbers.{Bytes}
 use Rattle.layout.specs.declared.Shape.{Shape}
 use Rattle.layout.specs.declared.Refusal.{Refusal}
 use Rattle.layout.specs.declared.Refusal.the-variants.{Short, Foreign, Geometry, BadLink, BadMap, Shared, Range, Size, NoRoom, Small, BadPlan, BadAlarm}

@@ -11,11 +11,10 @@ use Rattle.search.specs.Search.{member, distinct}
 use Rattle.layout.specs.Layout.{X, isUnit, unitWords, linkOf, wordsOf, wordAt, mapWordPlace, mapWords}
 use Rattle.image.specs.Soundness.{leading, mapped, unitsOf}
 use Rattle.image.specs.Verdicts.{wellFormed}
-use Rattle.search.proofs.Bools.{contradict, either, cond-true, cond-false}
+use Rattle.search.proofs.Bools.{either, cond-true, cond-false}
 use Rattle.search.proofs.Mapping.{map-below-ext}
-use Rattle.image.proofs.Chunks.{units-unmapped}
 use Rattle.layout.specs.Shaped.{On}
-use Rattle.image.proofs.Order.{Orderly, Chunk, Apart, apart-flip, unmapped-apart, unitsIn, units-in}
+use Rattle.image.proofs.Order.{Orderly, Chunk, Apart, apart-flip, unmapped-chunk, unmapped-apart, unitsIn, units-in}
 
 -- chunk i names the same map as before, and that map's words are as before
 pub record Same (g : Shape) (s t : List ℕ) (i : ℕ) : Type 0 where
@@ -58,22 +57,25 @@ module _ (g : Shape) (s t : List ℕ) (os : On g s) (ot : On g t) where
             cond-false (mapped t i) (leading (isUnit g) (unitWords g (wordsOf g t (linkOf t i)))) [] (same-mapped ∙ p)
             ∙ sym (cond-false (mapped s i) (leading (isUnit g) (unitWords g (wordsOf g s (linkOf s i)))) [] p)
 
+  -- a chunk that is kept stays in order, and two that are kept stay apart
+  pub same-chunk : (i : ℕ) → Same g s t i → Chunk g s i → Chunk g t i
+  same-chunk i a k = record {
+    bound = λ p. subst (λ (l : ℕ). l < g .m) (sym (a .link)) (k .bound (sym (same-mapped i a) ∙ p));
+    formed = λ p.
+        ap (λ (ws : List ℕ). wellFormed (isUnit g) (unitWords g ws)) (same-words i a (sym (same-mapped i a) ∙ p)) ∙ k .formed (sym (same-mapped i a) ∙ p);
+    single = ap distinct (same-units i a) ∙ k .single;
+  }
+
+  pub same-apart : (i j : ℕ) → Same g s t i → Same g s t j → Apart s i j → Apart t i j
+  same-apart i j a b k = record {
+    maps = λ p q e. k .maps (sym (same-mapped i a) ∙ p) (sym (same-mapped j b) ∙ q) (sym (a .link) ∙ e ∙ b .link);
+    units = λ u p q. k .units u (ap (member u) (sym (same-units i a)) ∙ p) (ap (member u) (sym (same-units j b)) ∙ q);
+  }
+
   module _ (d : Orderly g s) where
     fate-chunk : (i : ℕ) → i < g .c → Fate g s t i → Chunk g t i
-    unfolding distinct
-    fate-chunk i h (kept a) =
-        let k = d .chunk i h in
-        record {
-          bound = λ p. subst (λ (l : ℕ). l < g .m) (sym (a .link)) (k .bound (sym (same-mapped i a) ∙ p));
-          formed = λ p.
-              ap (λ (ws : List ℕ). wellFormed (isUnit g) (unitWords g ws)) (same-words i a (sym (same-mapped i a) ∙ p)) ∙ k .formed (sym (same-mapped i a) ∙ p);
-          single = ap distinct (same-units i a) ∙ k .single;
-        }
-    fate-chunk i h (emptied e) = record {
-      bound = λ p. contradict p e;
-      formed = λ p. contradict p e;
-      single = ap distinct (units-unmapped t i e);
-    }
+    fate-chunk i h (kept a) = same-chunk i a (d .chunk i h)
+    fate-chunk i h (emptied e) = unmapped-chunk g t i e
     fate-chunk i h (renewed r) = record { bound = λ p. r .bound; formed = λ p. r .formed; single = r .single }
 
     -- a renewed chunk is apart from one that was kept
@@ -85,12 +87,7 @@ module _ (g : Shape) (s t : List ℕ) (os : On g s) (ot : On g t) where
 
     module _ (new : (i j : ℕ) → i < g .c → j < g .c → i ≢ j → Renewed g s t i → Renewed g s t j → Apart t i j) where
       fate-apart : (i j : ℕ) → i < g .c → j < g .c → i ≢ j → Fate g s t i → Fate g s t j → Apart t i j
-      fate-apart i j hi hj n (kept a) (kept b) =
-          let k = d .apart i j hi hj n in
-          record {
-            maps = λ p q e. k .maps (sym (same-mapped i a) ∙ p) (sym (same-mapped j b) ∙ q) (sym (a .link) ∙ e ∙ b .link);
-            units = λ u p q. k .units u (ap (member u) (sym (same-units i a)) ∙ p) (ap (member u) (sym (same-units j b)) ∙ q);
-          }
+      fate-apart i j hi hj n (kept a) (kept b) = same-apart i j a b (d .apart i j hi hj n)
       fate-apart i j hi hj n (kept a) (emptied e) = apart-flip (unmapped-apart e)
       fate-apart i j hi hj n (kept a) (renewed r) = apart-flip (renewed-kept j i hi r a)
       fate-apart i j hi hj n (emptied e) f = unmapped-apart e

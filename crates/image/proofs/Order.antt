@@ -1,12 +1,12 @@
 -- Soundness as propositions at a fixed shape: `Orderly g s` says of each chunk, and of each two, what `Tested s` says by tests.
 use Prim.Native.Nat.{ℕ, _<_}
-use mathlib.Core.Path.{_≡_, refl, sym, ap, subst}
-use mathlib.Core.Logic.{_⊎_, inl, inr, _≢_}
-use mathlib.Core.Bool.{Bool, true, false, not, _&&_, _||_, cond}
+use mathlib.Core.Path.{_≡_, refl, sym, ap, subst, _∙_}
+use mathlib.Core.Logic.{_⊎_, inl, inr, _≢_, ⊎-elim}
+use mathlib.Core.Bool.{true, false, not, _&&_, _||_, cond}
 use mathlib.Core.List.{List, []}
 use native.Mathlib.Omega.{arith}
 use lib.Dec.{eqb, ltb}
-use borrow.Author.Tests.{eqb-true, ltb-true, ltb-false, lt-ltb, not-true}
+use borrow.Author.Tests.{eqb-true, ltb-true, ltb-false, lt-ltb}
 use Rattle.layout.specs.declared.Shape.{Shape}
 use Rattle.search.specs.Search.{member, distinct, disjoint}
 use Rattle.layout.specs.Layout.{isUnit, unitWords, shapeOf, known, fitting, linkOf, wordsOf}
@@ -14,8 +14,9 @@ use Rattle.image.specs.Claims.{Tested}
 use Rattle.image.specs.Soundness.{leading, mapped, unitsOf}
 use Rattle.image.specs.Verdicts.{wellFormed, clash}
 use Rattle.search.proofs.Bools.{implied, implies, contradict, either, is-false, and-left, and-right, or-cases}
-use Rattle.search.proofs.Distinct.{disjoint-at, disjoint-intro}
-use Rattle.image.proofs.Chunks.{clash-links, clash-units, mapped-of-unit}
+use Rattle.search.proofs.Members.{any-at}
+use Rattle.search.proofs.Distinct.{disjoint-at, meets}
+use Rattle.image.proofs.Chunks.{clash-links, clash-units, mapped-of-unit, units-unmapped}
 use Rattle.layout.specs.Shaped.{On}
 
 -- the units of chunk i, the shape being known
@@ -45,32 +46,43 @@ pub record Orderly (g : Shape) (s : List ℕ) : Type 0 where
 pub apart-flip : {s : List ℕ} {i j : ℕ} → Apart s i j → Apart s j i
 apart-flip a = record { maps = λ p q e. a .maps q p (sym e); units = λ u p q. a .units u q p }
 
--- a chunk with no map is apart from every other
+-- a chunk with no map is in order, and apart from every other
+pub unmapped-chunk : (g : Shape) (s : List ℕ) (i : ℕ) → mapped s i ≡ false → Chunk g s i
+unfolding distinct
+unmapped-chunk g s i e = record { bound = λ p. contradict p e; formed = λ p. contradict p e; single = ap distinct (units-unmapped s i e) }
+
 pub unmapped-apart : {s : List ℕ} {i j : ℕ} → mapped s i ≡ false → Apart s i j
 unmapped-apart {s} {i} e = record { maps = λ p q. contradict p e; units = λ u p q. contradict (mapped-of-unit s u i p) e }
 
-clash-apart : (s : List ℕ) (i j : ℕ) → clash s i j ≡ false → Apart s i j
+pub clash-apart : (s : List ℕ) (i j : ℕ) → clash s i j ≡ false → Apart s i j
 clash-apart s i j h = record {
   maps = λ p q e. clash-links s i j h p q e;
   units = λ u p q. contradict q (disjoint-at (unitsOf s i) (unitsOf s j) (clash-units s i j h) u p);
 }
 
-apart-clash : (s : List ℕ) (i j : ℕ) → Apart s i j → clash s i j ≡ false
+-- two chunks that clash both name a map, the same one or two with a common unit
+pub record Clashing (s : List ℕ) (i j : ℕ) : Type 0 where
+  pub first : mapped s i ≡ true
+  pub second : mapped s j ≡ true
+  pub common : (linkOf s i ≡ linkOf s j) ⊎ ((u : ℕ) × (member u (unitsOf s i) ≡ true) × (member u (unitsOf s j) ≡ true))
+
+pub clashing : (s : List ℕ) (i j : ℕ) → clash s i j ≡ true → Clashing s i j
 unfolding clash
-apart-clash s i j a = is-false (clash s i j) wrong
-  where
-    shared : Bool
-    shared = not (disjoint (unitsOf s i) (unitsOf s j))
+clashing s i j e =
+    let links = eqb (linkOf s i) (linkOf s j) in
+    let units = not (disjoint (unitsOf s i) (unitsOf s j)) in
+    let both = and-left (mapped s i && mapped s j) (links || units) e in
+    record {
+      first = and-left (mapped s i) (mapped s j) both;
+      second = and-right (mapped s i) (mapped s j) both;
+      common = ⊎-elim (λ q. inl (eqb-true (linkOf s i) (linkOf s j) q))
+          (λ q. let r = any-at (λ u. member u (unitsOf s i)) (unitsOf s j) (sym (meets (unitsOf s i) (unitsOf s j)) ∙ q) in inr (r .0, r .2, r .1))
+          (or-cases links units (and-right (mapped s i && mapped s j) (links || units) e));
+    }
 
-    split : mapped s i ≡ true → mapped s j ≡ true → (eqb (linkOf s i) (linkOf s j) ≡ true) ⊎ (shared ≡ true) → ⊥
-    split p q (inl e) = a .maps p q (eqb-true (linkOf s i) (linkOf s j) e)
-    split p q (inr e) = contradict (disjoint-intro (unitsOf s i) (unitsOf s j) (λ u p. is-false (member u (unitsOf s j)) (a .units u p))) (not-true (disjoint (unitsOf s i) (unitsOf s j)) e)
-
-    wrong : clash s i j ≡ true → ⊥
-    wrong h =
-        let both : (mapped s i && mapped s j) ≡ true = and-left (mapped s i && mapped s j) (eqb (linkOf s i) (linkOf s j) || shared) h in
-        split (and-left (mapped s i) (mapped s j) both) (and-right (mapped s i) (mapped s j) both)
-        (or-cases (eqb (linkOf s i) (linkOf s j)) shared (and-right (mapped s i && mapped s j) (eqb (linkOf s i) (linkOf s j) || shared) h))
+pub apart-clash : (s : List ℕ) (i j : ℕ) → Apart s i j → clash s i j ≡ false
+apart-clash s i j a = is-false (clash s i j) (λ h.
+    let c = clashing s i j h in ⊎-elim (λ e. a .maps (c .first) (c .second) e) (λ r. a .units (r .0) (r .1) (r .2)) (c .common))
 
 pub orderly : {s : List ℕ} → Tested s → Orderly (shapeOf s) s
 orderly {s} d = record {

@@ -7,7 +7,7 @@ use mathlib.Core.Bool.{true, not}
 use mathlib.Core.List.{List}
 use lib.ListN.{length}
 use lib.Dec.{ltb}
-use Rattle.words.proofs.Numbers.{Bytes}
+use Rattle.words.specs.Words.{Bytes}
 use Rattle.search.specs.Search.{member, distinct}
 use Rattle.bitset.specs.Bits.{bitSet}
 use Rattle.bitset.proofs.BitSets.{bitSet-ext}

@@ -3,17 +3,17 @@ use Prim.Native.Nat.{ℕ, _<_}
 use native.Mathlib.Omega.{arith}
 use mathlib.Core.Path.{_≡_, sym, ap, subst, _∙_}
 use mathlib.Core.Logic.{⊎-elim}
-use mathlib.Core.Bool.{true, false, not, _&&_}
+use mathlib.Core.Bool.{true, false}
 use mathlib.Core.List.{List, _++_}
 use lib.ListN.{length, getD, take, drop, take-append-drop}
 use lib.Seq.{length-take-le}
-use lib.Dec.{eqb, ltb}
-use borrow.Author.Tests.{ltb-true, ltb-false, lt-ltb, eqb-true, not-true}
-use Rattle.words.proofs.Numbers.{Bytes}
-use Rattle.search.proofs.Bools.{contradict, and-left, and-right, either, is-false, or-cases}
+use lib.Dec.{ltb}
+use borrow.Author.Tests.{ltb-true, ltb-false, lt-ltb}
+use Rattle.words.specs.Words.{Bytes}
+use Rattle.search.proofs.Bools.{contradict, either, is-false}
 use Rattle.search.proofs.Members.{member-place, member-getD}
-use Rattle.search.proofs.Distinct.{distinct-intro, distinct-place, disjoint-intro}
-use Rattle.search.specs.Search.{below, member, distinct, disjoint}
+use Rattle.search.proofs.Distinct.{distinct-intro, distinct-place}
+use Rattle.search.specs.Search.{below, member, distinct}
 use Rattle.search.proofs.Ranges.{any-below, any-below-intro}
 use Rattle.search.proofs.Joined.{member-joined}
 use Rattle.image.specs.Free.{heldUnits}
@@ -22,13 +22,14 @@ use Rattle.layout.specs.Layout.{isUnit, trailerStart, trailerOf, trailerAt, sha
 use Rattle.layout.proofs.Limits.{limits-hold, fitting-limits, fitting-length, absent-no-unit}
 use Rattle.layout.proofs.Told.{shape-told, known-told, fitting-told, ends-in-trailer}
 use Rattle.image.specs.Soundness.{mapped, namedWords, unitsOf, leading, NamesUnit, Sound}
-use Rattle.image.specs.Verdicts.{clash}
+use Rattle.image.specs.Verdicts.{goodMap, clash}
 use Rattle.image.specs.Claims.{Tested, heldIn}
 use Rattle.image.proofs.Leading.{form-of, well-formed, leading-at, length-leading}
+use Rattle.image.proofs.Order.{clashing}
 use Rattle.image.proofs.Chunks.{absent-link, absent-map, is-mapped, named-link, named-map, named-below, mapped-named, unmapped-absent, units-mapped, mapped-of-unit, owner, map-owner}
 
 -- unit a of a mapped chunk is word a of its map
-unit-at : (s : List ℕ) (i a : ℕ) → i < shapeOf s .c → mapped s i ≡ true → a < length (unitsOf s i)
+pub unit-at : (s : List ℕ) (i a : ℕ) → i < shapeOf s .c → mapped s i ≡ true → a < length (unitsOf s i)
     → NamesUnit (shapeOf s) s i a (getD (unitsOf s i) a 0)
 unit-at s i a c m h =
     let g = shapeOf s in
@@ -45,28 +46,35 @@ unit-at s i a c m h =
       unit = ap (isUnit g) same ∙ r .1;
     }
 
+-- and so each of its units is a word of its map
+pub unit-named : (s : List ℕ) (u i : ℕ) → i < shapeOf s .c → member u (unitsOf s i) ≡ true → (a : ℕ) × NamesUnit (shapeOf s) s i a u
+unit-named s u i c m =
+    let p = member-place u (unitsOf s i) m in
+    (p .0, subst (NamesUnit (shapeOf s) s i (p .0)) (p .2) (unit-at s i (p .0) c (mapped-of-unit s u i m) (p .1)))
+
 -- ---- from the tests to the words
 
-module _ (s : List ℕ) (z : Tested s) where
-  -- a word of a named map that is a unit is one of the chunk's units
-  unit-place : (u i a : ℕ) → NamesUnit (shapeOf s) s i a u → (a < length (unitsOf s i)) × (getD (unitsOf s i) a 0 ≡ u)
-  unit-place u i a n =
-      let g = shapeOf s in
-      let ws = namedWords g s i in
-      let f = form-of (isUnit g) ws (sym (named-map s i (n .named)) ∙ z .maps i (n .chunk)) in
-      let e = units-mapped s i (is-mapped s i (n .named)) in
-      let k = length (leading (isUnit g) ws) in
-      let l : a < k =
-      ⊎-elim (λ t. ltb-true a k t)
-      (λ t. let x = f .rest a (ltb-false a k t) (n .place) in
-      contradict (ap (isUnit g) (sym x ∙ n .word) ∙ n .unit) (absent-no-unit g (fitting-limits s (z .fitting))))
-      (either (ltb a k)) in
-      (let q = ap length e in omega arith, ap (λ (us : List ℕ). getD us a 0) e ∙ leading-at (isUnit g) ws a l .0 ∙ n .word)
+-- a word of a well-formed map that is a unit is one of the chunk's units
+pub unit-place : (s : List ℕ) (u i a : ℕ) → fitting s ≡ true → goodMap s i ≡ true → NamesUnit (shapeOf s) s i a u
+    → (a < length (unitsOf s i)) × (getD (unitsOf s i) a 0 ≡ u)
+unit-place s u i a fits m n =
+    let g = shapeOf s in
+    let ws = namedWords g s i in
+    let f = form-of (isUnit g) ws (sym (named-map s i (n .named)) ∙ m) in
+    let e = units-mapped s i (is-mapped s i (n .named)) in
+    let k = length (leading (isUnit g) ws) in
+    let l : a < k =
+    ⊎-elim (λ t. ltb-true a k t)
+    (λ t. let x = f .rest a (ltb-false a k t) (n .place) in
+    contradict (ap (isUnit g) (sym x ∙ n .word) ∙ n .unit) (absent-no-unit g (fitting-limits s fits)))
+    (either (ltb a k)) in
+    (let q = ap length e in omega arith, ap (λ (us : List ℕ). getD us a 0) e ∙ leading-at (isUnit g) ws a l .0 ∙ n .word)
 
+module _ (s : List ℕ) (z : Tested s) where
   once : (u i j a b : ℕ) → NamesUnit (shapeOf s) s i a u → NamesUnit (shapeOf s) s j b u → (i ≡ j) × (a ≡ b)
   once u i j a b n m =
-      let pa = unit-place u i a n in
-      let pb = unit-place u j b m in
+      let pa = unit-place s u i a (z .fitting) (z .maps i (n .chunk)) n in
+      let pb = unit-place s u j b (z .fitting) (z .maps j (m .chunk)) m in
       let q : i ≡ j =
       owner s z u i j (n .chunk) (m .chunk) (ap (λ (v : ℕ). member v (unitsOf s i)) (sym (pa .1)) ∙ member-getD (unitsOf s i) a (pa .0))
       (ap (λ (v : ℕ). member v (unitsOf s j)) (sym (pb .1)) ∙ member-getD (unitsOf s j) b (pb .0)) in
@@ -99,21 +107,14 @@ module _ (s : List ℕ) (z : Tested s) where
 
 module _ (s : List ℕ) (w : Sound (shapeOf s) s) where
   sound-apart : (i j : ℕ) → i < j → j < shapeOf s .c → clash s i j ≡ false
-  unfolding clash
   sound-apart i j h l = is-false (clash s i j) (λ e.
-      let both = and-left (mapped s i && mapped s j) _ e in
-      let mi = and-left (mapped s i) (mapped s j) both in
-      let mj = and-right (mapped s i) (mapped s j) both in
-      ⊎-elim
-      (λ q. let r = w .maps i j (omega arith) l (mapped-named s i mi) (eqb-true (linkOf s i) (linkOf s j) q) in omega arith)
-      (λ q. contradict (disjoint-intro (unitsOf s i) (unitsOf s j) (λ u m. is-false (member u (unitsOf s j)) (λ k.
-      let a = member-place u (unitsOf s i) m in
-      let b = member-place u (unitsOf s j) k in
-      let n = rw (a .2) at (unit-at s i (a .0) (omega arith) mi (a .1)) in
-      let o = rw (b .2) at (unit-at s j (b .0) l mj (b .1)) in
-      let r = w .units u i j (a .0) (b .0) n o in
-      omega (arith, r .0)))) (not-true (disjoint (unitsOf s i) (unitsOf s j)) q))
-      (or-cases (eqb (linkOf s i) (linkOf s j)) (not (disjoint (unitsOf s i) (unitsOf s j))) (and-right (mapped s i && mapped s j) _ e)))
+      let c = clashing s i j e in
+      ⊎-elim (λ q. let r = w .maps i j (omega arith) l (mapped-named s i (c .first)) q in omega arith)
+      (λ q. let a = unit-named s (q .0) i (omega arith) (q .1) in
+      let b = unit-named s (q .0) j l (q .2) in
+      let r = w .units (q .0) i j (a .0) (b .0) (a .1) (b .1) in
+      omega (arith, r .0))
+      (c .common))
 
   sound-single : (i : ℕ) → i < shapeOf s .c → distinct (unitsOf s i) ≡ true
   sound-single i h = distinct-intro (unitsOf s i) (λ a b l k e.
@@ -170,15 +171,15 @@ pub held-named : (g : Shape) (s : List ℕ) → Sound g s → (u : ℕ) → memb
 unfolding heldUnits
 held-named g s w u m =
     let r = any-below (λ i. member u (unitsOf s i)) (shapeOf s .c) (sym (member-joined (unitsOf s) u (below (shapeOf s .c))) ∙ m) in
-    let p = member-place u (unitsOf s (r .0)) (r .2) in
-    let n = unit-at s (r .0) (p .0) (r .1) (mapped-of-unit s u (r .0) (r .2)) (p .1) in
-    (r .0, p .0, subst (λ (h : Shape). NamesUnit h s (r .0) (p .0) u) (sound-shape g s w) (subst (NamesUnit (shapeOf s) s (r .0) (p .0)) (p .2) n))
+    let n = unit-named s u (r .0) (r .1) (r .2) in
+    (r .0, n .0, subst (λ (h : Shape). NamesUnit h s (r .0) (n .0) u) (sound-shape g s w) (n .1))
 
 pub named-held : (g : Shape) (s : List ℕ) → Sound g s → (u i a : ℕ) → NamesUnit g s i a u → member u (heldUnits s) ≡ true
 unfolding heldUnits
 named-held g s w u i a n =
     let m : NamesUnit (shapeOf s) s i a u = subst (λ (h : Shape). NamesUnit h s i a u) (sym (sound-shape g s w)) n in
-    let p = unit-place s (sound-tested g s w) u i a m in
+    let z = sound-tested g s w in
+    let p = unit-place s u i a (z .fitting) (z .maps i (m .chunk)) m in
     member-joined (unitsOf s) u (below (shapeOf s .c))
     ∙ any-below-intro (λ j. member u (unitsOf s j)) (shapeOf s .c) i (m .chunk)
     (ap (λ (v : ℕ). member v (unitsOf s i)) (sym (p .1)) ∙ member-getD (unitsOf s i) a (p .0))

@@ -20,7 +20,7 @@ pub fn link(image: &[u8], g: Shape, i: usize) -> u64
 }
 
 // Word j of map k.
-pub(crate) fn map_word(image: &[u8], g: Shape, k: usize, j: usize) -> u64
+pub fn map_word(image: &[u8], g: Shape, k: usize, j: usize) -> u64
     requires { ⌜ Shaped (now image) g ⌝ }
     requires { ⌜ (k < g .m) × (j < g .p) ⌝ }
     ensures { λ r. ⌜ r ≡ getD (mapOf (now (image .entry)) k) j 0 ⌝ }

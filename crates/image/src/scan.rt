@@ -11,7 +11,7 @@ ghost use Rattle.image.specs.Verdicts.{goodLink, goodMap, badLink, badMa
 ghost use Rattle.layout.specs.Shaped.{Shaped};
 
 // Whether chunk i's entry is X or below M.
-fn good_link(image: &[u8], g: Shape, i: usize) -> bool
+pub fn good_link(image: &[u8], g: Shape, i: usize) -> bool
     requires { ⌜ Shaped (now image) g ⌝ }
     requires { ⌜ i < g .c ⌝ }
     ensures { λ r. ⌜ r ≡ goodLink (now (image .entry)) i ⌝ }
@@ -42,7 +42,7 @@ pub(crate) fn first_bad_link(image: &[u8], g: Shape) -> usize
 }
 
 // Whether chunk i names no map, or one of the right form.
-fn good_map(image: &[u8], g: Shape, i: usize) -> bool
+pub fn good_map(image: &[u8], g: Shape, i: usize) -> bool
     requires { ⌜ Shaped (now image) g ⌝ }
     requires { ⌜ (i < g .c) × (goodLink (now image) i ≡ true) ⌝ }
     ensures { λ r. ⌜ r ≡ goodMap (now (image .entry)) i ⌝ }

@@ -10,9 +10,9 @@ use lib.ListN.{length, getD, drop, length-append, drop-of-length-le}
 use lib.Seq.{getD-append-add, drop-cons}
 use lib.Dec.{eqb}
 use borrow.Author.Tests.{eq-eqb, eqb-true}
-use Rattle.words.specs.Words.{number, digits, u16At, u32At}
+use Rattle.words.specs.Words.{Bytes, number, digits, u16At, u32At}
 use Rattle.words.proofs.Laws.{length-digits, number-back, number-skip}
-use Rattle.words.proofs.Numbers.{number-here, number-next, Bytes, drop-number}
+use Rattle.words.proofs.Numbers.{number-here, number-next, drop-number}
 use Rattle.search.proofs.Bools.{and-intro, and-left, and-right}
 use Rattle.layout.specs.declared.Shape.{Shape}
 use Rattle.layout.specs.Layout.{tag, mapBytes, trailerBytes, trailerStart, shapeBytes, sizeBytes, agreeing, trailerOf, trailerAt, imageBytes, withinLimits, mapWords, shapeOf, known, fitting}

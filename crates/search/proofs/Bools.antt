@@ -1,12 +1,13 @@
 -- Booleans: what an equation on a connective says of its parts, the connectives regrouped, and the tests of two numbers.
 -- (Units, associativity and double negation are mathlib.Core.Bool's and-true, and-false, and-assoc, or-false, or-assoc, Bool·not-not.)
-use Prim.Native.Nat.{ℕ, _≤_, _<_}
+use Prim.Native.Nat.{ℕ, _+_, _≤_, _<_}
 use native.Mathlib.Decide.{ℕ-discrete}
+use native.Mathlib.Omega.{arith}
 use mathlib.Core.Path.{_≡_, refl, sym, _∙_}
-use mathlib.Core.Logic.{_⊎_, inl, inr, ⊎-elim}
+use mathlib.Core.Logic.{_⊎_, inl, inr, _≢_, ⊎-elim}
 use mathlib.Core.Bool.{Bool, true, false, not, _&&_, _||_, cond, true≢false, false≢true}
 use lib.Dec.{eqb, ltb}
-use borrow.Author.Tests.{eq-eqb, ne-eqb, ltb-true, ltb-false}
+use borrow.Author.Tests.{eq-eqb, ne-eqb, lt-ltb, le-ltb, ltb-true, ltb-false}
 
 -- ---- one Boolean
 
@@ -149,3 +150,10 @@ eqb-comm a b = go (ℕ-discrete a b)
 -- a number is below another, or it is not
 pub less-or-not : (a b : ℕ) → (a < b) ⊎ (b ≤ a)
 less-or-not a b = ⊎-elim (λ t. inl (ltb-true a b t)) (λ t. inr (ltb-false a b t)) (either (ltb a b))
+
+-- whether a number is below i, and below i + 1, differs at i alone
+pub ltb-next : (y i : ℕ) → y ≢ i → ltb y i ≡ ltb y (i + 1)
+ltb-next y i n =
+    ⊎-elim (λ h. lt-ltb y i h ∙ sym (lt-ltb y (i + 1) (omega arith)))
+    (λ h. ⊎-elim (λ l. le-ltb y i h ∙ sym (le-ltb y (i + 1) (omega arith))) (λ l. absurd (n (omega arith))) (less-or-not i y))
+    (less-or-not y i)

@@ -3,18 +3,30 @@ use Prim.Native.Nat.{ℕ, zero, suc, _+_, _*_, _≤_, _<_}
 use native.Mathlib.Omega.{arith}
 use mathlib.Core.Path.{_≡_, refl, sym, ap, _∙_}
 use mathlib.Core.Bool.{Bool, true, false, cond, _||_}
-use mathlib.Core.List.{List, [], _∷_, _++_}
+use mathlib.Core.List.{List, [], _∷_, _++_, append-assoc, append-nil}
 use lib.ListN.{length, length-append}
-use Rattle.search.specs.Search.{from, any, keep, member, distinct, disjoint, joined}
+use Rattle.search.specs.Search.{from, below, any, keep, member, distinct, disjoint, joined}
 use Rattle.search.proofs.Bools.{contradict, is-false}
 use Rattle.search.proofs.Members.{member-nil, member-head, member-tail, member-append, any-at}
-use Rattle.search.proofs.Ranges.{member-from}
+use Rattle.search.proofs.Ranges.{member-from, from-last}
 use Rattle.search.proofs.Distinct.{distinct-nil, distinct-append, disjoint-at, disjoint-intro}
 
 pub member-joined : (f : ℕ → List ℕ) (u : ℕ) (xs : List ℕ) → member u (joined f xs) ≡ any (λ x. member u (f x)) xs
 unfolding joined any
 member-joined f u [] = member-nil u
 member-joined f u (x ∷ xs) = member-append u (f x) (joined f xs) ∙ ap (λ (b : Bool). member u (f x) || b) (member-joined f u xs)
+
+joined-append : (f : ℕ → List ℕ) (xs ys : List ℕ) → joined f (xs ++ ys) ≡ joined f xs ++ joined f ys
+unfolding joined
+joined-append f [] ys = refl
+joined-append f (x ∷ xs) ys = ap (λ (us : List ℕ). f x ++ us) (joined-append f xs ys) ∙ sym (append-assoc (f x) (joined f xs) (joined f ys))
+
+-- the lists on the numbers below n, and then on n
+pub joined-last : (f : ℕ → List ℕ) (n : ℕ) → joined f (below (suc n)) ≡ joined f (below n) ++ f n
+unfolding joined
+joined-last f n =
+    let e : 0 + n ≡ n = omega arith in
+    ap (joined f) (from-last 0 n) ∙ joined-append f (below n) ((0 + n) ∷ []) ∙ rw (e, append-nil (f n))
 
 -- joined lists of at most p numbers each
 pub length-joined : (f : ℕ → List ℕ) (p : ℕ) (xs : List ℕ) → ((x : ℕ) → length (f x) ≤ p) → length (joined f xs) ≤ length xs * p

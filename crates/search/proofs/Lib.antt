@@ -6,5 +6,6 @@ pub mod Distinct
 pub mod Taken
 pub mod Counting
 pub mod Joined
+pub mod Repeated
 pub mod Mapping
 pub mod Rising

@@ -52,7 +52,7 @@ from-end i n h =
 pub below-start : (n : ℕ) → below n ≡ from 0 (n - 0)
 below-start n = rw (sub-zero n)
 
-from-last : (i n : ℕ) → from i (suc n) ≡ from i n ++ ((i + n) ∷ [])
+pub from-last : (i n : ℕ) → from i (suc n) ≡ from i n ++ ((i + n) ∷ [])
 unfolding from
 from-last i zero = rw (add-zero i)
 from-last i (suc n) =

@@ -123,7 +123,7 @@ module _ (f : ℕ → Bool) (n : ℕ) where
 -- ---- the first k of them are the k lowest
 
 -- each number is below every later one
-abbrev Rising : List ℕ → Type 0
+abbrev pub Rising : List ℕ → Type 0
 Rising xs = (i j : ℕ) → i < j → j < length xs → getD xs i 0 < getD xs j 0
 
 lower-first : (a : ℕ) (xs : List ℕ) → ((u : ℕ) → member u xs ≡ true → a < u) → Rising xs → Rising (a ∷ xs)
@@ -132,7 +132,7 @@ lower-first a xs low next zero (suc j) h l = low (getD xs j 0) (member-getD xs j
 lower-first a xs low next (suc i) (suc j) h l = next i j (omega arith) (omega arith)
 
 module _ (f : ℕ → Bool) where
-  kept-rising : (n a : ℕ) → Rising (keep f (from a n))
+  pub kept-rising : (n a : ℕ) → Rising (keep f (from a n))
   unfolding from
   kept-rising zero a = rw (keep-nil f) (λ i j h l. absurd (omega arith))
   kept-rising (suc n) a =

@@ -23,6 +23,16 @@ pub put-other : (f : ℕ → Bool) (x : ℕ) (v : Bool) (y : ℕ) → (y ≡ x �
 unfolding put
 put-other f x v y h = rw (ne-eqb y x h)
 
+put-in-cell : (a q : Bool) → cond q true a ≡ (a || q)
+put-in-cell true true = refl
+put-in-cell true false = refl
+put-in-cell false true = refl
+put-in-cell false false = refl
+
+pub put-in : (f : ℕ → Bool) (x y : ℕ) → put f x true y ≡ (f y || eqb y x)
+unfolding put
+put-in f x y = put-in-cell (f y) (eqb y x)
+
 all-put-cell : (a p m q : Bool) → (cond q false a && (p && not m)) ≡ ((a && p) && not (q || m))
 all-put-cell true true m true = refl
 all-put-cell true false m true = refl
@@ -61,7 +71,7 @@ without-last-cell true false false = refl
 without-last-cell false m true = refl
 without-last-cell false m false = refl
 
-member-last : (y x : ℕ) (xs : List ℕ) → member y (xs ++ (x ∷ [])) ≡ (member y xs || eqb y x)
+pub member-last : (y x : ℕ) (xs : List ℕ) → member y (xs ++ (x ∷ [])) ≡ (member y xs || eqb y x)
 unfolding member any
 member-last y x xs = member-append y xs (x ∷ []) ∙ ap (λ (b : Bool). member y xs || b) (or-false (eqb y x))
 

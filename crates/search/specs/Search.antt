@@ -37,6 +37,11 @@ unfoldable pub distinct : List ℕ → Bool
 distinct [] = true
 distinct (x ∷ xs) = not (member x xs) && distinct xs
 
+-- x stands in the list more than once
+unfoldable pub repeated : ℕ → List ℕ → Bool
+repeated x [] = false
+repeated x (y ∷ ys) = (eqb x y && member x ys) || repeated x ys
+
 -- no number stands in both lists
 unfoldable pub disjoint : List ℕ → List ℕ → Bool
 disjoint xs ys = all (λ x. not (member x ys)) xs

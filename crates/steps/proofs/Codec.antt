@@ -8,9 +8,9 @@ use lib.Dec.{eqb}
 use borrow.Author.Tests.{ne-eqb}
 use Rattle.search.specs.Search.{from, below}
 use Rattle.search.proofs.Bools.{cond-false}
-use Rattle.words.specs.Words.{digits, u32At}
+use Rattle.words.specs.Words.{Bytes, digits, u32At}
 use Rattle.words.proofs.Laws.{number-skip, length-digits}
-use Rattle.words.proofs.Numbers.{Bytes, number-here, number-next}
+use Rattle.words.proofs.Numbers.{number-here, number-next}
 use Rattle.steps.specs.declared.Value.{Value}
 use Rattle.steps.specs.declared.Value.the-variants.{Number, Absent}
 use Rattle.steps.specs.declared.Step.{Step}

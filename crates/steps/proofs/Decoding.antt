@@ -8,8 +8,8 @@ use mathlib.Core.List.{List, _++_, append-assoc}
 use lib.ListN.{length, drop, drop-of-length-le}
 use lib.Dec.{eqb}
 use borrow.Author.Tests.{eqb-true, eqb-false}
-use Rattle.words.specs.Words.{number, digits, u32At}
-use Rattle.words.proofs.Numbers.{Bytes, drop-number}
+use Rattle.words.specs.Words.{Bytes, number, digits, u32At}
+use Rattle.words.proofs.Numbers.{drop-number}
 use Rattle.steps.specs.declared.Value.the-variants.{Number, Absent}
 use Rattle.steps.specs.declared.Step.{Step}
 use Rattle.steps.specs.declared.Step.the-variants.{Data, Map, Link, Fence}

@@ -9,8 +9,8 @@ use lib.ListN.{length, take, drop, replicate, drop-of-length-le}
 use lib.Seq.{sets-eq, length-take-le}
 use borrow.Author.Tests.{lt-ltb, le-ltb}
 use denote.Ref.{RefT, now}
+use Rattle.words.specs.Words.{Bytes}
 use Rattle.search.specs.Search.{from}
-use Rattle.words.proofs.Numbers.{Bytes}
 use Rattle.steps.specs.declared.Step.{Step}
 use Rattle.steps.specs.declared.Decoded.the-variants.{Whole, Malformed}
 use Rattle.steps.specs.declared.Found.{Found}

@@ -5,7 +5,7 @@ use mathlib.Core.Path.{_≡_, refl, sym, ap, ap₂, _∙_}
 use mathlib.Core.List.{List, _∷_, _++_}
 use lib.ListN.{length, getD, take, drop, take-append-drop, List·getD-append}
 use lib.Seq.{drop-cons, drop-drop}
-use Rattle.words.specs.Words.{number, digits}
+use Rattle.words.specs.Words.{Bytes, number, digits}
 use Rattle.words.proofs.Laws.{number-ext, number-skip, length-digits, number-back}
 
 -- reading inside the first of two lists
@@ -22,10 +22,6 @@ number-here w v ys h =
     number-first w (digits w v) ys 0 (omega (arith, length-digits w v)) ∙ number-back w v h
 
 -- ---- and back: the number of some bytes has those bytes
-
--- every number of the list is a byte
-abbrev pub Bytes : List ℕ → Type 0
-Bytes s = (k : ℕ) → k < length s → getD s k 0 < 256
 
 pub digits-number : (w : ℕ) (s : List ℕ) (i : ℕ) → Bytes s → i + w ≤ length s → digits w (number w s i) ≡ take w (drop i s)
 unfolding number digits
