@@ -1,0 +1,10 @@
+pub mod Counting
+pub mod Chunks
+pub mod Sharing
+pub mod Turns
+pub mod Unlinking
+pub mod Answering
+pub mod Mending
+pub mod Wording
+pub mod Cases
+pub mod Theorems

@@ -1,0 +1,3 @@
+pub mod Repair
+pub mod Reading
+pub mod Claims
