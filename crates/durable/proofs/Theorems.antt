@@ -17,6 +17,8 @@ use Rattle.layout.proofs.Limits.{limits}
 use Rattle.image.proofs.Fresh.{shape-fresh, units-fresh}
 use Rattle.image.proofs.Theorems.{format-is-sound}
 use Rattle.image.proofs.Wording.{sound-shape, sound-tested}
+use Rattle.repair.specs.Repair.{repairImage}
+use Rattle.repair.proofs.Theorems.{repair-repairs}
 use Rattle.steps.specs.declared.Request.{Request}
 use Rattle.steps.specs.declared.Request.the-variants.{Write, Discard}
 use Rattle.steps.specs.Steps.{wholeSteps, stepsOf, chunkOf, needOf, encodeAll}
@@ -29,8 +31,8 @@ use Rattle.carry.specs.Carry.{carryImage}
 use Rattle.planner.specs.Planner.{planOf}
 use Rattle.planner.proofs.Accepted.{planned-accepted, plan-map, plan-pieces, plan-read}
 use Rattle.planner.proofs.Theorems.{answered, written-is-plan}
-use Rattle.durable.specs.Events.{finished, holds}
-use Rattle.durable.specs.Demand.{Demand}
+use Rattle.durable.specs.Events.{Volume, finished, holds}
+use Rattle.durable.specs.Demand.{Demand, DemandAfterRepair}
 use Rattle.durable.specs.Own.{ownEvent, OwnDelivers}
 use Rattle.durable.specs.LoadsBack.{LoadsBack, newUnits, PlansLoadBack, ownLink, ownUnits, OwnLoadsBack, WrittenLoadsBack}
 use Rattle.durable.proofs.Careful.{holds-is}
@@ -49,6 +51,12 @@ demand A g buffer content es w =
     holds-is (record { image = formatImage g buffer; content = content }) i
     ∙ ap (λ (s : List ℕ). map content (unitsOf s i)) (f .1)
     ∙ ap (map content) (units-fresh g k i (omega arith)))
+
+-- And from what a repair leaves, with the ledger at what that image gives each chunk.
+pub demand-after-repair : DemandAfterRepair
+demand-after-repair A s out n content es b e =
+    let v : Volume A = record { image = repairImage s (length out); content = content } in
+    kept-from-sound A (shapeOf s) v (holds v) es (repair-repairs s out n e b .sound) (λ i h. refl)
 
 -- ---- the planner's own plans
 

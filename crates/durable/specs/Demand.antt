@@ -3,10 +3,15 @@ use Prim.Native.Nat.{ℕ, _<_}
 use mathlib.Core.Path.{_≡_}
 use mathlib.Core.Bool.{Bool, true, false, cond}
 use mathlib.Core.List.{List, [], _∷_, _++_}
+use lib.ListN.{length}
+use Rattle.words.specs.Words.{Bytes}
 use Rattle.layout.specs.declared.Shape.{Shape}
 use Rattle.layout.specs.declared.Formatted.the-variants.{Done}
+use Rattle.layout.specs.Layout.{shapeOf}
 use Rattle.layout.specs.Format.{formatAnswer, formatImage}
 use Rattle.image.specs.Soundness.{NamesUnit, Sound}
+use Rattle.repair.specs.declared.Repaired.the-variants.{Unlinked}
+use Rattle.repair.specs.Repair.{repairAnswer, repairImage}
 use Rattle.steps.specs.Steps.{chunkOf}
 use Rattle.carry.specs.Carry.{carryImage}
 use Rattle.durable.specs.Events.{Volume, Event, lands, holds, after, run, newPieces, refused, finished, cut, outcome, takesEffect, entries, ledger}
@@ -64,3 +69,12 @@ abbrev pub Demand : Type 1
 Demand =
     (A : Type 0) (g : Shape) (buffer : List ℕ) (content : ℕ → A) (es : List (Event A)) → formatAnswer g buffer ≡ Done
     → Kept g (record { image = formatImage g buffer; content = content }) (λ i. []) es
+
+-- After a repair (02, request 3): "Demand 3 and its ledger then start from the repaired image once it is wholly written back and fenced, a chunk with no
+-- landed plan since holding what that image gives it". Of any bytes that `repair` answers, with any contents of the units. "a cut before that isn't
+-- covered": the list of events begins on the image that `repair` leaves, all of it on the disk.
+abbrev pub DemandAfterRepair : Type 1
+DemandAfterRepair =
+    (A : Type 0) (s out : List ℕ) (n : ℕ) (content : ℕ → A) (es : List (Event A)) → Bytes s → repairAnswer s (length out) ≡ Unlinked n
+    → Kept (shapeOf s) (record { image = repairImage s (length out); content = content })
+    (holds (record { image = repairImage s (length out); content = content })) es
