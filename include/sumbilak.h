@@ -27,8 +27,8 @@
  *    11   BAD PLAN    a plan rule broken                                            lowest rule broken, 1 to 5
  *    12   BAD ALARM   fraction not a number, below 0 or above 1                     0
  *
- * Every call but format first applies 1 to 6 to its image. The lowest number wins. A refusal leaves every lent byte as it was, and value, extent and all
- * that a report has are 0. An answer writes what its comment says and no other byte.
+ * Every call but format and repair first applies 1 to 6 to its image; repair applies 1 to 3. The lowest number wins. A refusal leaves every lent byte as it
+ * was, and value, extent and all that a report has are 0. An answer writes what its comment says and no other byte.
  */
 #ifndef SUMBILAK_H
 #define SUMBILAK_H
@@ -139,6 +139,13 @@ sumbilak_answer sumbilak_check_discard(const uint8_t *image, size_t len, uint64_
  * still be on its way to the disk, and the image is read back from there. Refuses as the check does, and with 7 for n above the plan's whole steps. */
 sumbilak_answer sumbilak_carry_write(uint8_t *image, size_t len, uint64_t chunk, uint64_t size, const uint8_t *plan, size_t plan_len, uint64_t n);
 sumbilak_answer sumbilak_carry_discard(uint8_t *image, size_t len, uint64_t chunk, const uint8_t *plan, size_t plan_len, uint64_t n);
+
+/* Repairs an image that is refused with 4, 5 or 6: unlinks every chunk with a bad link or a bad map, and then, among the others, every chunk that shares a
+ * map or unit with another, or names a unit twice; both sides of a clash go. Only the entries of those chunks change, to absent. What they held stays in
+ * the chunk maps until new plans use them again. value: unlinked chunks. Writes their numbers, rising, a little-endian u32 each: 4 * C bytes are always
+ * enough. The result is sound; a sound image is not changed. What is proved of power failures holds again once the image is back on the disk, whole and
+ * flushed. Refuses with 1 to 3, and 10. */
+sumbilak_answer sumbilak_repair(uint8_t *image, size_t len, uint8_t *out, size_t out_len);
 
 /* Counts of the volume and two ratios, each one rounded division. Refuses with 1 to 6. */
 sumbilak_report_answer sumbilak_report(const uint8_t *image, size_t len);

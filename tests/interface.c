@@ -126,6 +126,50 @@ static void worked_cases(void)
     is("and chunk 3", shared.second, 3);
 }
 
+/* Chunk 0 on units 3, 4 and chunk 2 on units 0, 1, then damaged: chunk 3 names chunk 2's map, and chunk 1 a map that begins with X. */
+static void repairs(void)
+{
+    uint8_t image[IMAGE], sound[IMAGE], damaged[IMAGE], list[16], paint[16];
+    sumbilak_format(image, IMAGE, P, C, M, N);
+    write_chunk(image, 2, 6144, 0);
+    write_chunk(image, 0, 3072, 0);
+    write_chunk(image, 0, 5120, 0);
+    memcpy(sound, image, IMAGE);
+    is("a sound image has nothing to list", sumbilak_repair(image, IMAGE, NULL, 0).number, 0);
+    is("and is not changed", (uint64_t)memcmp(image, sound, IMAGE), 0);
+
+    memcpy(image + 24, image + 16, 8);
+    memset(image + 8, 0, 8);
+    image[8] = 4;
+    memcpy(damaged, image, IMAGE);
+    memset(list, 0xA5, sizeof list);
+    memset(paint, 0xA5, sizeof paint);
+    sumbilak_answer a = sumbilak_repair(image, IMAGE, list, 11);
+    is("11 bytes are too few", a.number, 10);
+    is("12 are needed", a.place, 12);
+    is("value 0", a.value, 0);
+    is("the image stays", (uint64_t)memcmp(image, damaged, IMAGE), 0);
+    is("the list stays", (uint64_t)memcmp(list, paint, sizeof list), 0);
+
+    a = sumbilak_repair(image, IMAGE, list, 12);
+    is("repaired", a.number, 0);
+    is("three chunks", a.value, 3);
+    is("no extent", a.extent, 0);
+    static const uint8_t unlinked[12] = {1, 0, 0, 0, 2, 0, 0, 0, 3, 0, 0, 0};
+    is("chunks 1, 2, 3", (uint64_t)memcmp(list, unlinked, 12), 0);
+    is("nothing past the list", (uint64_t)memcmp(list + 12, paint, 4), 0);
+    is("chunk 0 keeps units 3, 4", units(image, 0), 0x0304);
+    is("chunk 2 has none", sumbilak_held(image, IMAGE, 2).extent, 0);
+    is("no byte moved past the entries", (uint64_t)memcmp(image + 32, damaged + 32, IMAGE - 32), 0);
+    is("again", sumbilak_repair(image, IMAGE, NULL, 0).value, 0);
+    is("it takes the next write", write_chunk(image, 1, 4096, 0), 8);
+
+    image[IMAGE - 1] = 1;
+    is("a foreign length", sumbilak_repair(image, IMAGE, list, 16).number, 3);
+    image[IMAGE - 32] = 0;
+    is("a foreign tag", sumbilak_repair(image, IMAGE, list, 16).number, 2);
+}
+
 static void limits(void)
 {
     uint8_t *image = malloc(SUMBILAK_MAX_IMAGE_BYTES + 8);
@@ -153,6 +197,7 @@ static void empty_slices(void)
     is("check_discard", sumbilak_check_discard(NULL, 0, 0, NULL, 0).number, 1);
     is("carry_write", sumbilak_carry_write(NULL, 0, 0, 1, NULL, 0, 0).number, 1);
     is("carry_discard", sumbilak_carry_discard(NULL, 0, 0, NULL, 0, 0).number, 1);
+    is("repair", sumbilak_repair(NULL, 0, NULL, 0).number, 1);
     is("report", sumbilak_report(NULL, 0).number, 1);
     is("alarm_count", sumbilak_alarm_count(NULL, 0, 0).number, 1);
     is("alarm_fraction", sumbilak_alarm_fraction(NULL, 0, 0.5).number, 1);
@@ -161,6 +206,7 @@ static void empty_slices(void)
 int main(void)
 {
     worked_cases();
+    repairs();
     limits();
     empty_slices();
     printf("C interface: %d of %d as documents 01 and 02 have them\n", asked - failed, asked);

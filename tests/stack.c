@@ -21,6 +21,7 @@ static void every_call(void)
     memcpy(clash, image, IMAGE);
     memcpy(clash + 8 * 255, clash, 8); /* the last chunk names the first one's map */
     sumbilak_load(clash, IMAGE, words, SUMBILAK_LOAD_WORDS);
+    sumbilak_repair(clash, IMAGE, out, sizeof out);
     sumbilak_load(image, IMAGE, words, SUMBILAK_LOAD_WORDS);
     sumbilak_split(image, IMAGE, 0, (uint64_t)C * P * SUMBILAK_UNIT_BYTES, out, sizeof out);
     sumbilak_access(image, IMAGE, true, 0, SUMBILAK_UNIT_BYTES);

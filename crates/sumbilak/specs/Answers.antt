@@ -17,6 +17,8 @@ use Rattle.report.specs.declared.Report.{Report}
 use Rattle.report.specs.declared.Reported.{Reported}
 use Rattle.report.specs.declared.Alarm.{Alarm}
 use Rattle.report.specs.declared.Alarm.the-variants.{Sounds, Silent, Refused as NoAlarm}
+use Rattle.repair.specs.declared.Repaired.{Repaired}
+use Rattle.repair.specs.declared.Repaired.the-variants.{Unlinked, Refused as NotRepaired}
 use Rattle.planner.specs.declared.Planned.{Planned}
 use Rattle.planner.specs.declared.Planned.the-variants.{Steps, Refused as NotPlanned}
 use Rattle.rules.specs.declared.Checked.{Checked}
@@ -41,7 +43,7 @@ abbrev pub checkedAnswer : Checked → Answer
 checkedAnswer Accepted = given 0 0
 checkedAnswer (Denied r) = refused r
 
--- split: how many pieces; the planner: how many steps
+-- split: how many pieces; the planner: how many steps; repair: how many unlinked chunks
 abbrev pub splitAnswers : Split → Answer
 splitAnswers (Pieces n) = given n 0
 splitAnswers (NotSplit r) = refused r
@@ -49,6 +51,10 @@ splitAnswers (NotSplit r) = refused r
 abbrev pub plannedAnswer : Planned → Answer
 plannedAnswer (Steps n) = given n 0
 plannedAnswer (NotPlanned r) = refused r
+
+abbrev pub repairedAnswer : Repaired → Answer
+repairedAnswer (Unlinked n) = given n 0
+repairedAnswer (NotRepaired r) = refused r
 
 -- access: 0 reads nothing, 1 zeros, 2 the chunk
 abbrev pub accessAnswers : Access → Answer

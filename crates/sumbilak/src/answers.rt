@@ -10,6 +10,7 @@ use layout::Formatted;
 use layout::Refusal;
 use layout::refusals;
 use planner::Planned;
+use repair::Repaired;
 use report::Alarm;
 use report::Reported;
 use rules::Checked;
@@ -79,6 +80,15 @@ pub(crate) fn planned(x: Planned) -> Answer
     match x {
         Planned::Steps(n) => given(n as u64, 0),
         Planned::Refused(r) => refused(r),
+    }
+}
+
+pub(crate) fn repaired(x: Repaired) -> Answer
+    ensures { λ a. ⌜ a ≡ Answers.repairedAnswer x ⌝ }
+{
+    match x {
+        Repaired::Unlinked(n) => given(n as u64, 0),
+        Repaired::Refused(r) => refused(r),
     }
 }
 

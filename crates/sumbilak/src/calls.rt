@@ -12,11 +12,12 @@ ghost use Rattle.access.specs.Ranges.{splitAnswer, splitOut, accessAnswer};
 ghost use Rattle.access.specs.Parts.{heldOf};
 ghost use Rattle.report.specs.Reports.{reportAnswer};
 ghost use Rattle.report.specs.Alarms.{alarmAnswer};
+ghost use Rattle.repair.specs.Repair.{repairAnswer, repairImage, repairList};
 ghost use Rattle.planner.specs.Planner.{planAnswer, planOut};
 ghost use Rattle.rules.specs.Rules.{checked};
 ghost use Rattle.carry.specs.Carry.{carryAnswer, carryImage};
 ghost use Rattle.sumbilak.specs.Loading.{loadAnswer, loadOut};
-ghost use Rattle.sumbilak.specs.Answers.{formattedAnswer, splitAnswers, accessAnswers, heldAnswer, plannedAnswer, checkedAnswer, reportedAnswer, alarmAnswers};
+ghost use Rattle.sumbilak.specs.Answers.{formattedAnswer, splitAnswers, accessAnswers, heldAnswer, plannedAnswer, repairedAnswer, checkedAnswer, reportedAnswer, alarmAnswers};
 
 #[no_mangle]
 pub extern "C" fn sumbilak_format(image: &mut [u8], p: u64, c: u64, m: u64, n: u64) -> Answer
@@ -145,4 +146,14 @@ pub extern "C" fn sumbilak_alarm_fraction(image: &[u8], fraction: f64) -> Answer
 {
     let x = report::alarms::alarm(image, Level::Fraction(fraction));
     answers::alarm(x)
+}
+
+#[no_mangle]
+pub extern "C" fn sumbilak_repair(image: &mut [u8], out: &mut [u8]) -> Answer
+    ensures { λ r. ⌜ r ≡ repairedAnswer (repairAnswer (now (image .entry)) (length (now (out .entry)))) ⌝ }
+    ensures { λ r. ⌜ now (image .exit) ≡ repairImage (now (image .entry)) (length (now (out .entry))) ⌝ }
+    ensures { λ r. ⌜ now (out .exit) ≡ repairList (now (image .entry)) (now (out .entry)) ⌝ }
+{
+    let x = repair::mend::repair(image, out);
+    answers::repaired(x)
 }
