@@ -173,21 +173,28 @@ CASES = {
 NO_FILE = ['missing', '.', '']
 
 
-def main():
-    data = os.path.join(HERE, 'data')
+def store(folder, files, args, stdout):
+    """Writes a stored run: the files of data/, and the lines of args and of stdout."""
+    data = os.path.join(folder, 'data')
     os.makedirs(data, exist_ok=True)
     for old in os.listdir(data):
         os.remove(os.path.join(data, old))
-    stdout = []
-    for name, content in CASES.items():
+    for name, content in files.items():
         with open(os.path.join(data, name), 'wb') as f:
             f.write(content)
-        stdout += [name] + listing(content)
-    for name in NO_FILE:
-        stdout += [name, 's UNREADABLE']
-    for name, lines in (('args', list(CASES) + NO_FILE), ('stdout', stdout)):
-        with open(os.path.join(HERE, name), 'w') as f:
+    for name, lines in (('args', args), ('stdout', stdout)):
+        with open(os.path.join(folder, name), 'w') as f:
             f.write(''.join(line + '\n' for line in lines))
 
 
-main()
+def main():
+    stdout = []
+    for name, content in CASES.items():
+        stdout += [name] + listing(content)
+    for name in NO_FILE:
+        stdout += [name, 's UNREADABLE']
+    store(HERE, CASES, list(CASES) + NO_FILE, stdout)
+
+
+if __name__ == '__main__':
+    main()
