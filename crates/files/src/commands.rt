@@ -4,6 +4,7 @@ use crate::formatting::format_file;
 use crate::listing::list_file;
 use crate::planning::check_file;
 use crate::planning::plan_file;
+use crate::repairing::repair_file;
 use crate::space::alarm_file;
 use crate::space::report_file;
 use decimals::Number;
@@ -36,20 +37,33 @@ fn name_line(i: usize) {
     text(b"\n");
 }
 
-// Lists the volumes in several files, each after a line with its name.
-pub fn list_all() {
+// The file that argument i names, after a line with its name: what its repair says, where it is to be repaired first, and what it holds.
+fn show_case(i: usize, repair_first: bool) {
+    name_line(i);
+    if repair_first {
+        conclude(repair_file(i));
+    }
+    conclude(list_file(i));
+}
+
+// The same for all of the arguments.
+fn show_cases(usage: &[u8], repair_first: bool) {
     let n = os::arg_count();
     if n < 2 {
-        complain(b"usage", b"list_cases FILE..");
+        complain(b"usage", usage);
         conclude(Outcome::Unreadable);
         return;
     }
     let mut i: usize = 1;
     while i < n {
-        name_line(i);
-        conclude(list_file(i));
+        show_case(i, repair_first);
         i += 1;
     }
+}
+
+// Lists the volumes in several files, each after a line with its name.
+pub fn list_all() {
+    show_cases(b"list_cases FILE..", false);
 }
 
 // The four numbers of a shape from argument 2 on, one after the other.
@@ -174,4 +188,21 @@ fn alarm_one() -> Outcome {
 // Says whether the alarm of a volume sounds at a level.
 pub fn alarm_at() {
     conclude(alarm_one());
+}
+
+fn repair_one() -> Outcome {
+    if !arguments::are(2, b"repair_image IMAGE") {
+        return Outcome::Unreadable;
+    }
+    repair_file(1)
+}
+
+// Repairs an image file in place, and prints the chunks that were unlinked.
+pub fn repair_image() {
+    conclude(repair_one());
+}
+
+// Repairs several image files in place, each after a line with its name, and lists each afterwards.
+pub fn repair_all() {
+    show_cases(b"repair_cases FILE..", true);
 }

@@ -11,6 +11,7 @@ pub mod commands;
 mod formatting;
 mod listing;
 mod planning;
+mod repairing;
 mod space;
 
 // The longest image that the limits allow. A longer file is no image, whatever is in it.

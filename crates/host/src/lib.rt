@@ -53,9 +53,11 @@ pub enum Word {
     Silent,
 }
 
-// How a program's work ended. Where it is `Unreadable`, standard error has been told why.
+// How a program's work ended. `Listed` is an answer that was printed whole, and has no last line of its own. Where it is `Unreadable`, standard error has
+// been told why.
 pub enum Outcome {
     Answered(Word),
+    Listed,
     Refused(Refusal),
     Unreadable,
 }

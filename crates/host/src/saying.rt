@@ -14,6 +14,19 @@ pub fn number(n: u64) {
     io::print_decimal(STDOUT_FILENO, n);
 }
 
+// A number on a line of its own, for a list that cannot be had again: where it could not be written, the reason is told.
+pub fn number_line(n: u64) -> bool {
+    if !io::print_decimal(STDOUT_FILENO, n) {
+        os::fail(b"standard output");
+        return false;
+    }
+    if !io::write_all(STDOUT_FILENO, b"\n") {
+        os::fail(b"standard output");
+        return false;
+    }
+    true
+}
+
 // A label and its number.
 pub fn labelled(label: &[u8], n: u64) {
     text(label);
@@ -85,10 +98,11 @@ fn answered(word: Word) {
     }
 }
 
-// The last line of a program.
+// The last line of a program, if it has one.
 pub fn conclude(outcome: Outcome) {
     match outcome {
         Outcome::Answered(word) => answered(word),
+        Outcome::Listed => {}
         Outcome::Refused(r) => refused(r),
         Outcome::Unreadable => text(b"s UNREADABLE\n"),
     }

@@ -1,23 +1,20 @@
--- `files::commands::list_all` is safe and ends: one argument fewer is left at each turn.
+-- `files::commands::show_cases` is safe and ends: one argument fewer is left at each turn.
 use borrow.Author.Needs.{needs}
 use Prim.Native.Nat.{_-_}
-use Rattle.files.proofs.commands.list_all.Statement.{statement}
-use Rattle.files.proofs.commands.list_all.Tie as tie
+use Rattle.files.proofs.commands.show_cases.Statement.{statement}
+use Rattle.files.proofs.commands.show_cases.Tie as tie
 
 abbrev Inv-loop : tie.InvT-loop
-Inv-loop n i₀ i = Unit {0}
+Inv-loop usage first n i₀ i = Unit {0}
 
 abbrev μ-loop : tie.MeasureT-loop
-μ-loop n i₀ i = n - i
+μ-loop usage first n i₀ i = n - i
 
 arg-count-requires : tie.Need-arg-count-requires Inv-loop μ-loop
 arg-count-requires c κs = search needs
 
 slice-aggregate-complain : tie.Need-slice-aggregate-complain Inv-loop μ-loop
 slice-aggregate-complain c = search needs
-
-slice-aggregate-complain-2 : tie.Need-slice-aggregate-complain-2 Inv-loop μ-loop
-slice-aggregate-complain-2 c = search needs
 
 complain-requires : tie.Need-complain-requires Inv-loop μ-loop
 complain-requires c κs = search needs
@@ -31,14 +28,8 @@ returns c = search needs
 loop-holds : tie.Need-loop-holds Inv-loop μ-loop
 loop-holds c = tt
 
-name-line-requires : tie.Need-name-line-requires Inv-loop μ-loop
-name-line-requires c κs = search needs
-
-list-file-requires : tie.Need-list-file-requires Inv-loop μ-loop
-list-file-requires c κs = search needs
-
-conclude-requires-2 : tie.Need-conclude-requires-2 Inv-loop μ-loop
-conclude-requires-2 c κs = search needs
+show-case-requires : tie.Need-show-case-requires Inv-loop μ-loop
+show-case-requires c κs = search needs
 
 add-i : tie.Need-add-i Inv-loop μ-loop
 add-i c = search needs
@@ -52,22 +43,19 @@ loop-again c = search needs
 returns-2 : tie.Need-returns-2 Inv-loop μ-loop
 returns-2 c = search needs
 
-pub list-all-spec : {M : Type 1} → statement M
-list-all-spec =
+pub show-cases-spec : {M : Type 1} → statement M
+show-cases-spec =
     tie.close
     (tie.spec
     Inv-loop
     μ-loop
     arg-count-requires
     slice-aggregate-complain
-    slice-aggregate-complain-2
     complain-requires
     conclude-requires
     returns
     loop-holds
-    name-line-requires
-    list-file-requires
-    conclude-requires-2
+    show-case-requires
     add-i
     loop-less
     loop-again
