@@ -17,6 +17,8 @@ pub const MAX_IMAGE_LEN: usize = 38_944;
 pub(crate) const UNIT_WORDS: usize = 72;
 /// Words of the free-map set: "maps likewise in 5 words" (01).
 pub(crate) const MAP_WORDS: usize = 5;
+/// Words of a set of chunks, of which there are at most 256.
+pub(crate) const CHUNK_WORDS: usize = 4;
 
 /// Bytes of a word of the logical map or of a chunk map.
 pub(crate) const WORD: usize = 8;

@@ -32,7 +32,7 @@ pub(crate) struct Volume<'a> {
 
 /// The two tables of an image whose trailer is good, as 64-bit words.
 #[derive(Clone, Copy)]
-struct Words<'a> {
+pub(crate) struct Words<'a> {
     logical: &'a [[u8; WORD]],
     maps: &'a [[u8; WORD]],
     p: usize,
@@ -41,7 +41,7 @@ struct Words<'a> {
 impl<'a> Words<'a> {
     /// "First the logical map, C words of 64 bits; then M chunk maps of P
     /// words each" (01).
-    fn of_image(image: &'a [u8], geometry: &Geometry) -> Self {
+    pub fn of_image(image: &'a [u8], geometry: &Geometry) -> Self {
         let (words, _) = image.as_chunks::<WORD>();
         let (logical, rest) = words.split_at(geometry.c);
         Words {
@@ -52,7 +52,7 @@ impl<'a> Words<'a> {
     }
 
     /// Chunk and map number of each mapped chunk, chunks rising.
-    fn links(self) -> impl Iterator<Item = (usize, u64)> + 'a {
+    pub fn links(self) -> impl Iterator<Item = (usize, u64)> + 'a {
         let entries = self.logical.iter().map(|word| u64::from_le_bytes(*word));
         entries.enumerate().filter(|&(_, entry)| entry != X)
     }
@@ -64,8 +64,15 @@ impl<'a> Words<'a> {
     }
 
     /// The units at the front of a map, up to the first X.
-    fn held(self, map: u64) -> impl Iterator<Item = u64> + 'a {
+    pub fn held(self, map: u64) -> impl Iterator<Item = u64> + 'a {
         self.map(map).take_while(|&word| word != X)
+    }
+
+    /// Whether a map "holds 1 to P units below N, then only X" (01).
+    pub fn is_well_formed(self, map: u64, n: u64) -> bool {
+        let held = self.held(map).count();
+        let mut rest = self.map(map).skip(held);
+        held > 0 && self.held(map).all(|unit| unit < n) && rest.all(|word| word == X)
     }
 
     /// "The first chunk is the lowest one it clashes with, or itself if none

@@ -1,5 +1,5 @@
-//! The model: format, load, split, plan, check, carry out, report and alarm
-//! on the metadata image of one compressed volume.
+//! The model: format, load, split, plan, check, carry out, report, alarm and
+//! repair on the metadata image of one compressed volume.
 //!
 //! Nothing here allocates. Every function settles all refusals before its
 //! first store, so "a refusal changes nothing lent" (01) holds by order.
@@ -11,6 +11,7 @@ mod geometry;
 mod image;
 mod plan;
 mod ranges;
+mod repair;
 mod rules;
 #[cfg(test)]
 mod tests;
@@ -21,6 +22,7 @@ pub use geometry::{MAX_IMAGE_LEN, MAX_MAPS, MAX_UNITS_PER_CHUNK, UNIT};
 pub use image::{format, load, Loaded};
 pub use plan::{plan_discard, plan_write, ABSENT, STEP};
 pub use ranges::{access, held, split, Access, PIECE};
+pub use repair::{repair, LISTED};
 pub use rules::{check_discard, check_write, MAX_STEPS};
 
 /// The numbers of 01's table "When the loader or planner says no".

@@ -3,6 +3,8 @@
 
 use super::*;
 
+mod repair;
+
 const X: u64 = u64::MAX;
 const X32: u32 = ABSENT;
 
