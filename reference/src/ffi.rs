@@ -118,6 +118,8 @@ mod sys {
         pub fn sumbilak_alarm_count(image: *const u8, len: usize, units: u64) -> CAnswer;
         pub fn sumbilak_alarm_fraction(image: *const u8, len: usize, fraction: f64) -> CAnswer;
         pub fn sumbilak_report(image: *const u8, len: usize) -> CReport;
+        pub fn sumbilak_repair(image: *mut u8, len: usize, out: *mut u8, out_len: usize)
+            -> CAnswer;
     }
 }
 
@@ -242,4 +244,8 @@ pub fn alarm_fraction(image: &[u8], fraction: f64) -> CAnswer {
 
 pub fn report(image: &[u8]) -> CReport {
     unsafe { sys::sumbilak_report(image.as_ptr(), image.len()) }
+}
+
+pub fn repair(image: &mut [u8], out: &mut [u8]) -> CAnswer {
+    unsafe { sys::sumbilak_repair(image.as_mut_ptr(), image.len(), out.as_mut_ptr(), out.len()) }
 }
