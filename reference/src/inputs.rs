@@ -656,6 +656,53 @@ fn tangle(rng: &mut Rng, shape: &Shape, image: &mut [u8]) {
     }
 }
 
+/// A chunk's map, which is made if there is none.
+fn map_of(rng: &mut Rng, shape: &Shape, image: &mut [u8], chunk: u64) -> u64 {
+    if entry(image, chunk) >= shape.m {
+        map_anew(rng, shape, image, chunk);
+    }
+    entry(image, chunk)
+}
+
+/// A bad map with a unit of another chunk.
+fn borrow(rng: &mut Rng, shape: &Shape, image: &mut [u8]) {
+    let lender = mapped_chunk(rng, shape, image);
+    let units = units_in(shape, image, entry(image, lender));
+    let borrower = rng.below(shape.c);
+    let map = map_of(rng, shape, image, borrower);
+    let Some(unit) = rng.pick_any(&units) else {
+        return;
+    };
+    if map == entry(image, lender) {
+        return;
+    }
+    let last = shape.p - 1;
+    let (first, second) = match rng.below(3) {
+        0 => (X, unit),
+        1 => (unit, shape.n),
+        _ => (unit, rng.pick(&[X - 1, TWO_32 - 1, TWO_32 + unit])),
+    };
+    put_word(image, shape.word_at(map, 0), first);
+    put_word(image, shape.word_at(map, rng.between(1, last)), second);
+}
+
+/// A row of chunks, each with a unit of the one before it, and each good by
+/// itself where it was so.
+fn chain(rng: &mut Rng, shape: &Shape, image: &mut [u8]) {
+    let mut chunks: Vec<u64> = (0..shape.c).collect();
+    rng.shuffle(&mut chunks);
+    chunks.truncate(rng.between(2, 5) as usize);
+    for pair in chunks.windows(2) {
+        let [before, map] = [pair[0], pair[1]].map(|chunk| map_of(rng, shape, image, chunk));
+        let units = units_in(shape, image, before);
+        let held = units_in(shape, image, map).len() as u64;
+        if let Some(&unit) = units.first() {
+            let at = held.min(shape.p - 1);
+            put_word(image, shape.word_at(map, at), unit);
+        }
+    }
+}
+
 /// Damage with no row in mind: flipped bytes, cuts, random bytes.
 pub fn wild(rng: &mut Rng, image: &mut Vec<u8>) {
     match rng.below(6) {
@@ -709,6 +756,37 @@ pub fn image(rng: &mut Rng, base: &Base) -> Vec<u8> {
             }
         }
         _ => wild(rng, &mut image),
+    }
+    image
+}
+
+/// Faults in the tables, of one kind or of several: bad links, bad maps, and
+/// maps and units that are claimed twice. The trailer stays as it is.
+pub fn tables_damaged(rng: &mut Rng, shape: &Shape, image: &mut Vec<u8>) {
+    for _ in 0..rng.pick(&[1, 1, 1, 2, 3]) {
+        match rng.below(10) {
+            0 | 1 => damage(rng, shape, image, 4),
+            2 | 3 => damage(rng, shape, image, 5),
+            4 | 5 => damage(rng, shape, image, 6),
+            6 => borrow(rng, shape, image),
+            7 => chain(rng, shape, image),
+            8 => (4..=6).for_each(|row| damage(rng, shape, image, row)),
+            _ => (4..=6).rev().for_each(|row| damage(rng, shape, image, row)),
+        }
+    }
+}
+
+/// An image for a repair: mostly one with faults in its tables, else any.
+pub fn damaged(rng: &mut Rng, base: &Base) -> Vec<u8> {
+    if rng.chance(25) {
+        return image(rng, base);
+    }
+    let mut image = base.image.clone();
+    tables_damaged(rng, &base.shape, &mut image);
+    // A short list buffer competes with a bad trailer as well.
+    if rng.chance(10) {
+        let row = rng.between(2, 3);
+        damage(rng, &base.shape, &mut image, row);
     }
     image
 }
@@ -1228,6 +1306,21 @@ mod tests {
             }
             assert!(reached > 200, "row {row} was reached {reached} times");
         }
+    }
+
+    #[test]
+    fn damaged_tables_keep_their_trailer_and_are_seldom_sound() {
+        let mut rng = Rng::new(7);
+        let mut faulty = 0;
+        for _ in 0..300 {
+            let mut base = sound(&mut rng);
+            let before = base.image.clone();
+            tables_damaged(&mut rng, &base.shape, &mut base.image);
+            let tables = before.len() - TRAILER;
+            assert_eq!(base.image[tables..], before[tables..]);
+            faulty += usize::from(model::load(&base.image).is_err());
+        }
+        assert!(faulty > 250, "{faulty} were unsound");
     }
 
     #[test]

@@ -3,6 +3,7 @@
 //! Every case is run by both; answers, images, outputs and the bytes around
 //! them are compared. The rows of 01's table are also judged one by one, which
 //! counts the refusals that compete and gives a second opinion on the model.
+//! A repair is also held to the sentences about its result.
 //!
 //! First come generated inputs for each entry point, then sweeps that go
 //! through a small scope completely. `SUMBILAK_CASES` raises the number of
@@ -16,10 +17,10 @@ use std::io::{self, Write};
 use std::process::ExitCode;
 use std::time::Instant;
 
-use common::cases::{self, Case, Entry, Outcome};
+use common::cases::{self, Call, Case, Entry, Outcome};
 use common::coverage::{self, Coverage};
 use common::rows::{self, Verdict};
-use common::{generate, sweeps};
+use common::{generate, repairs, sweeps};
 use sumbilak_reference::inputs::{self, Base};
 use sumbilak_reference::rng::{mix, Rng};
 use sumbilak_reference::settings::number;
@@ -45,6 +46,9 @@ fn compare(name: &str, at: u64, case: &Case, failures: &mut u64) -> (Outcome, Ve
             verdict.answer(),
             &model.answer[..3]
         );
+    }
+    if matches!(case.call, Call::Repair) && library.answer[0] == 0 {
+        text += &repairs::flaws(at, case, &library, &verdict.faults.chunks());
     }
     if !text.is_empty() {
         *failures += 1;

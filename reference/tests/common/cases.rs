@@ -24,10 +24,11 @@ pub enum Entry {
     AlarmCount,
     AlarmFraction,
     Report,
+    Repair,
 }
 
 impl Entry {
-    pub const ALL: [Entry; 14] = [
+    pub const ALL: [Entry; 15] = [
         Entry::Format,
         Entry::Load,
         Entry::Split,
@@ -42,6 +43,7 @@ impl Entry {
         Entry::AlarmCount,
         Entry::AlarmFraction,
         Entry::Report,
+        Entry::Repair,
     ];
 
     pub fn name(self) -> &'static str {
@@ -60,6 +62,7 @@ impl Entry {
             Entry::AlarmCount => "alarm_count",
             Entry::AlarmFraction => "alarm_fraction",
             Entry::Report => "report",
+            Entry::Repair => "repair",
         }
     }
 }
@@ -116,6 +119,7 @@ pub enum Call {
         fraction: f64,
     },
     Report,
+    Repair,
 }
 
 /// The lent bytes and the call. `out` is what an output holds before the call,
@@ -216,6 +220,7 @@ pub fn by_model(case: &Case) -> Outcome {
                 report.saved_ratio.to_bits(),
             ]
         }),
+        Call::Repair => fields(model::repair(&mut image, &mut out), value),
     };
     Outcome {
         answer,
@@ -385,6 +390,7 @@ pub fn by_library(case: &Case) -> (Outcome, bool) {
         Call::AlarmCount { units } => words(ffi::alarm_count(image.slice(), units)),
         Call::AlarmFraction { fraction } => words(ffi::alarm_fraction(image.slice(), fraction)),
         Call::Report => report_words(ffi::report(image.slice())),
+        Call::Repair => words(ffi::repair(image.slice_mut(), out.slice_mut())),
     };
     let intact = image.guards_intact() && out.guards_intact() && plan.guards_intact();
     let outcome = Outcome {

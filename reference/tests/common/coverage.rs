@@ -3,7 +3,8 @@
 use sumbilak_reference::model;
 
 use super::cases::{Call, Case, Entry};
-use super::rows::Verdict;
+use super::repairs;
+use super::rows::{Faults, Verdict};
 
 /// Counts for one entry point.
 #[derive(Clone, Debug)]
@@ -13,7 +14,7 @@ pub struct Coverage {
     /// Answers by number, 0 to 12.
     pub answers: [u64; 13],
     /// Good answers by kind, in the order of [`kinds`].
-    pub kinds: [u64; 7],
+    pub kinds: [u64; 9],
     /// Place of refusal 11, rules 1 to 5.
     pub rules: [u64; 6],
     /// Inputs in which both rows held.
@@ -23,11 +24,11 @@ pub struct Coverage {
 }
 
 /// The refusals of rows 7 to 12 that an entry point can give. Rows 1 to 6 are
-/// the image's, which every entry point but format applies.
+/// the image's, which every entry point but format and repair applies.
 fn request_rows(entry: Entry) -> &'static [usize] {
     match entry {
         Entry::Format | Entry::AlarmCount | Entry::Report => &[],
-        Entry::Load => &[10],
+        Entry::Load | Entry::Repair => &[10],
         Entry::Split => &[7, 10],
         Entry::Access | Entry::Held => &[7],
         Entry::PlanWrite => &[7, 8, 9, 10],
@@ -43,6 +44,8 @@ pub fn possible_rows(entry: Entry) -> Vec<usize> {
     match entry {
         // "format, which gives only 3" (01).
         Entry::Format => vec![3],
+        // "Answers 1 to 3 still refuse" (02, request 3); 4 to 6 it repairs.
+        Entry::Repair => vec![1, 2, 3, 10],
         _ => (1..=6).chain(request_rows(entry).iter().copied()).collect(),
     }
 }
@@ -52,7 +55,9 @@ pub fn possible_rows(entry: Entry) -> Vec<usize> {
 /// Of 01's pairs among the rows that an entry point can give, these cannot:
 /// * 1 with 2 to 6: under 32 bytes there is no trailer and there are no
 ///   tables to be wrong;
-/// * 1 with 9: without a trailer there are no units to count.
+/// * 1 with 9: without a trailer there are no units to count;
+/// * 1 with 10 of a repair: without a trailer there are no chunks to list, and
+///   an empty list fits any buffer.
 ///
 /// All others can: a wrong tag, distance or length field leaves the tables
 /// where the geometry puts them, so rows 2 and 3 meet rows 4 to 6 and 9; a
@@ -67,12 +72,13 @@ pub fn possible_pairs(entry: Entry) -> Vec<(usize, usize)> {
         .flat_map(|&a| rows.iter().map(move |&b| (a, b)))
         .filter(|&(a, b)| a < b);
     pairs
-        .filter(|&(a, b)| a != 1 || (b > 6 && b != 9))
+        .filter(|&(a, b)| a != 1 || (b > 6 && b != 9 && entry != Entry::Repair))
         .collect()
 }
 
 /// The kinds of good answers that are told apart. An answer is of one kind; a
-/// report may be of several, see [`report_kinds`].
+/// report or a repair may be of several, see [`report_kinds`] and
+/// [`repair_kinds`].
 fn kinds(entry: Entry) -> &'static [&'static str] {
     match entry {
         Entry::Format | Entry::Load => &["answered"],
@@ -93,11 +99,22 @@ fn kinds(entry: Entry) -> &'static [&'static str] {
             "ratio rounded",
             "01's rule differs",
         ],
+        Entry::Repair => &[
+            "nothing unlinked",
+            "bad link",
+            "bad map",
+            "shared map",
+            "shared unit",
+            "unit twice",
+            "three of these or more",
+            "kept, though a bad map names its unit",
+            "all of several chunks",
+        ],
     }
 }
 
 /// Which of its entry point's kinds a good answer is.
-fn kinds_of(case: &Case, answer: &[u64; 9]) -> Vec<usize> {
+fn kinds_of(case: &Case, answer: &[u64; 9], verdict: &Verdict) -> Vec<usize> {
     let [.., value, extent, _, _, _, _] = *answer;
     let units_per_chunk = || model::load(&case.image).map_or(0, |loaded| loaded.p);
     let planned = |plan: &mut dyn FnMut(&mut [u8]) -> model::Answer<u64>| {
@@ -112,6 +129,7 @@ fn kinds_of(case: &Case, answer: &[u64; 9]) -> Vec<usize> {
     };
     let kind = match case.call {
         Call::Report => return report_kinds(case, answer),
+        Call::Repair => return repair_kinds(case, &verdict.faults),
         Call::Format { .. } | Call::Load => 0,
         Call::Split { .. } => value.min(3) as usize - 1,
         Call::Access { .. } => value as usize,
@@ -153,6 +171,27 @@ fn report_kinds(case: &Case, answer: &[u64; 9]) -> Vec<usize> {
     (0..kinds.len()).filter(|&kind| kinds[kind]).collect()
 }
 
+/// Every kind that a repair is, by the faults that were found.
+fn repair_kinds(case: &Case, faults: &Faults) -> Vec<usize> {
+    let unlinked = faults.chunks();
+    let of_kind = faults.kinds().map(|chunks| !chunks.is_empty());
+    let all = repairs::shape(&case.image).c as usize;
+    let kept = |chunk: &u64| !unlinked.contains(chunk);
+    let [bad_link, bad_map, shared_map, shared_unit, unit_twice] = of_kind;
+    let kinds = [
+        unlinked.is_empty(),
+        bad_link,
+        bad_map,
+        shared_map,
+        shared_unit,
+        unit_twice,
+        of_kind.into_iter().filter(|&seen| seen).count() >= 3,
+        faults.lenders.iter().any(kept),
+        unlinked.len() == all && all > 1,
+    ];
+    (0..kinds.len()).filter(|&kind| kinds[kind]).collect()
+}
+
 pub fn has_rules(entry: Entry) -> bool {
     request_rows(entry).contains(&11)
 }
@@ -168,7 +207,7 @@ impl Coverage {
             entry,
             inputs: 0,
             answers: [0; 13],
-            kinds: [0; 7],
+            kinds: [0; 9],
             rules: [0; 6],
             pairs: [[0; 13]; 13],
             rule_pairs: [[0; 6]; 6],
@@ -179,7 +218,7 @@ impl Coverage {
         self.inputs += 1;
         self.answers[answer[0] as usize] += 1;
         if answer[0] == 0 {
-            for kind in kinds_of(case, answer) {
+            for kind in kinds_of(case, answer, verdict) {
                 self.kinds[kind] += 1;
             }
         }

@@ -15,7 +15,10 @@ pub fn case(rng: &mut Rng, entry: Entry, pool: &[Base]) -> Case {
     }
     let base = &pool[rng.index(pool.len())];
     let shape = &base.shape;
-    let image = inputs::image(rng, base);
+    let image = match entry {
+        Entry::Repair => inputs::damaged(rng, base),
+        _ => inputs::image(rng, base),
+    };
     let mut plan = Vec::new();
     let mut room = 0;
     let call = match entry {
@@ -95,6 +98,13 @@ pub fn case(rng: &mut Rng, entry: Entry, pool: &[Base]) -> Case {
             }
         }
         Entry::Report => Call::Report,
+        Entry::Repair => {
+            // Only the length of the list is asked here, for a room around it.
+            let mut list = [0; 4 * 256];
+            let unlinked = model::repair(&mut image.clone(), &mut list).unwrap_or(0);
+            room = inputs::room(rng, 4 * unlinked);
+            Call::Repair
+        }
     };
     let mut out = vec![0; room];
     rng.fill(&mut out);

@@ -3,5 +3,6 @@
 pub mod cases;
 pub mod coverage;
 pub mod generate;
+pub mod repairs;
 pub mod rows;
 pub mod sweeps;

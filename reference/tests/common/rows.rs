@@ -12,6 +12,8 @@
 //! asks of them are judged too. Where the tables cannot be located, a request
 //! counts as bad only if it is bad for every volume.
 
+use std::collections::BTreeSet;
+
 use super::cases::{Call, Case};
 
 const X: u64 = u64::MAX;
@@ -23,6 +25,39 @@ const UNIT: u64 = 4096;
 pub struct Verdict {
     rows: [Option<(u64, u64)>; 13],
     rules: [bool; 6],
+    /// What a repair finds.
+    pub faults: Faults,
+}
+
+/// Chunks by what is wrong with them, in the words of 02, request 3.
+#[derive(Clone, Debug, Default)]
+pub struct Faults {
+    pub bad_link: BTreeSet<u64>,
+    pub bad_map: BTreeSet<u64>,
+    /// Among the chunks with good links and maps, as are the next two.
+    pub shared_map: BTreeSet<u64>,
+    pub shared_unit: BTreeSet<u64>,
+    pub unit_twice: BTreeSet<u64>,
+    /// Good chunks with a unit that a bad map names too.
+    pub lenders: BTreeSet<u64>,
+}
+
+impl Faults {
+    pub fn kinds(&self) -> [&BTreeSet<u64>; 5] {
+        [
+            &self.bad_link,
+            &self.bad_map,
+            &self.shared_map,
+            &self.shared_unit,
+            &self.unit_twice,
+        ]
+    }
+
+    /// The chunks to unlink, rising.
+    pub fn chunks(&self) -> Vec<u64> {
+        let all: BTreeSet<u64> = self.kinds().into_iter().flatten().copied().collect();
+        all.into_iter().collect()
+    }
 }
 
 impl Verdict {
@@ -75,6 +110,13 @@ impl Tables {
             .filter(|&(_, map)| map < self.m)
     }
 
+    /// Whether a map is not "1 to P units below N, then only X" (01).
+    fn bad_form(&self, map: u64) -> bool {
+        let words = self.map(map);
+        let held = words.iter().filter(|&&word| word != X).count();
+        held == 0 || words[..held].iter().any(|&word| word >= self.n)
+    }
+
     /// Which units are free: in no named map.
     fn free_units(&self) -> Vec<bool> {
         let mut free = vec![true; self.n as usize];
@@ -104,8 +146,8 @@ fn within_limits([p, c, m, n]: [u128; 4]) -> bool {
     p_good && c_good && m_good && n_good
 }
 
-/// Rows 1 to 6.
-fn image_rows(image: &[u8], verdict: &mut Verdict) -> Option<Tables> {
+/// Rows 1 to 3; answers the tables, if they can be located.
+fn trailer_rows(image: &[u8], verdict: &mut Verdict) -> Option<Tables> {
     if image.len() < 32 {
         // No trailer is there, so no other row of the image can hold.
         verdict.hold(1, 0);
@@ -131,51 +173,103 @@ fn image_rows(image: &[u8], verdict: &mut Verdict) -> Option<Tables> {
 
     let mut words: Vec<u64> = image[..image.len() - 32].chunks(8).map(number).collect();
     let maps = words.split_off(c as usize);
-    let tables = Tables {
+    Some(Tables {
         p,
         c,
         m,
         n,
         entries: words,
         words: maps,
-    };
-    if let Some(chunk) = tables.entries.iter().position(|&e| e != X && e >= m) {
-        verdict.hold(4, chunk as u64);
-    }
-    let bad_form = |map: u64| {
-        let words = tables.map(map);
-        let held = words.iter().filter(|&&word| word != X).count();
-        held == 0 || words[..held].iter().any(|&word| word >= n)
-    };
-    if let Some((chunk, _)) = tables.named().find(|&(_, map)| bad_form(map)) {
-        verdict.hold(5, chunk);
-    }
-    verdict.rows[6] = shared(&tables);
-    Some(tables)
+    })
 }
 
-/// Row 6. Every claim of a map or unit is listed with its chunk; what is
-/// claimed twice makes its second claimant, in the order of chunks, clash.
-fn shared(tables: &Tables) -> Option<(u64, u64)> {
-    let mut claims: Vec<(bool, u64, u64)> = Vec::new();
-    for (chunk, map) in tables.named() {
+/// Rows 4 to 6.
+fn table_rows(tables: &Tables, verdict: &mut Verdict) {
+    let bad_link = |&entry: &u64| entry != X && entry >= tables.m;
+    if let Some(chunk) = tables.entries.iter().position(bad_link) {
+        verdict.hold(4, chunk as u64);
+    }
+    let bad_map = |&(_, map): &(u64, u64)| tables.bad_form(map);
+    if let Some((chunk, _)) = tables.named().find(bad_map) {
+        verdict.hold(5, chunk);
+    }
+    verdict.rows[6] = shared(tables);
+}
+
+/// A map (true) or a unit, and the chunk that claims it.
+type Claim = (bool, u64, u64);
+
+/// Every claim of these chunks, sorted, so that chunks rise among the claims
+/// of one map or unit.
+fn claims(tables: &Tables, named: impl Iterator<Item = (u64, u64)>) -> Vec<Claim> {
+    let mut claims = Vec::new();
+    for (chunk, map) in named {
         claims.push((true, map, chunk));
         for &word in tables.map(map).iter().filter(|&&word| word < tables.n) {
             claims.push((false, word, chunk));
         }
     }
     claims.sort_unstable();
-    let groups = || {
-        claims
-            .chunk_by(|a, b| (a.0, a.1) == (b.0, b.1))
-            .filter(|group| group.len() > 1)
-    };
+    claims
+}
+
+/// The claims of each map or unit that is claimed more than once.
+fn clashes(claims: &[Claim]) -> impl Iterator<Item = &[Claim]> {
+    claims
+        .chunk_by(|a, b| (a.0, a.1) == (b.0, b.1))
+        .filter(|group| group.len() > 1)
+}
+
+/// Row 6. Every claim of a map or unit is listed with its chunk; what is
+/// claimed twice makes its second claimant, in the order of chunks, clash.
+fn shared(tables: &Tables) -> Option<(u64, u64)> {
+    let claims = claims(tables, tables.named());
+    let groups = || clashes(&claims);
     let second = groups().map(|group| group[1].2).min()?;
     let first = groups()
         .filter(|group| group[1..].iter().any(|claim| claim.2 == second))
         .map(|group| group[0].2)
         .min()?;
     Some((first, second))
+}
+
+/// "unlinks every chunk with a bad link or bad map, and then, among chunks
+/// with good links and maps, every chunk that shares a map or unit with another
+/// or names a unit twice" (02, request 3): by the sorted claims of the good
+/// ones, as row 6 is.
+fn faults(tables: &Tables) -> Faults {
+    let mut faults = Faults::default();
+    let entries = (0..).zip(tables.entries.iter().copied());
+    let bad_links = entries.filter(|&(_, entry)| entry != X && entry >= tables.m);
+    faults.bad_link.extend(bad_links.map(|(chunk, _)| chunk));
+    let (bad, good): (Vec<(u64, u64)>, Vec<(u64, u64)>) =
+        tables.named().partition(|&(_, map)| tables.bad_form(map));
+    faults.bad_map.extend(bad.iter().map(|&(chunk, _)| chunk));
+
+    let good_claims = claims(tables, good.into_iter());
+    for group in clashes(&good_claims) {
+        let chunks: BTreeSet<u64> = group.iter().map(|claim| claim.2).collect();
+        let own = |chunk: &u64| group.iter().filter(|claim| claim.2 == *chunk).count();
+        // A map is claimed once by a chunk, a unit as often as it is named.
+        let twice = chunks.iter().filter(|chunk| own(chunk) > 1);
+        faults.unit_twice.extend(twice);
+        if chunks.len() > 1 {
+            match group[0].0 {
+                true => faults.shared_map.extend(chunks),
+                false => faults.shared_unit.extend(chunks),
+            }
+        }
+    }
+
+    let borrowed = claims(tables, bad.into_iter());
+    for claim in borrowed.iter().filter(|claim| !claim.0) {
+        let from = good_claims.partition_point(|good| (good.0, good.1) < (false, claim.1));
+        let lenders = good_claims[from..]
+            .iter()
+            .take_while(|good| (good.0, good.1) == (false, claim.1));
+        faults.lenders.extend(lenders.map(|good| good.2));
+    }
+    faults
 }
 
 /// Row 7 for a byte range.
@@ -213,8 +307,15 @@ pub fn judge(case: &Case) -> Verdict {
         return verdict;
     }
 
-    let tables = image_rows(&case.image, &mut verdict);
+    let tables = trailer_rows(&case.image, &mut verdict);
     let tables = tables.as_ref();
+    match tables {
+        // "Answers 1 to 3 still refuse." (02, request 3) Rows 4 to 6 are what
+        // it repairs.
+        Some(tables) if matches!(case.call, Call::Repair) => verdict.faults = faults(tables),
+        Some(tables) => table_rows(tables, &mut verdict),
+        None => {}
+    }
     let lent = case.out.len() as u64;
     match case.call {
         Call::Format { .. } => unreachable!("judged above"),
@@ -299,6 +400,12 @@ pub fn judge(case: &Case) -> Verdict {
             let (below, above) = (fraction < 0.0, fraction > 1.0);
             if fraction.is_nan() || below || above {
                 verdict.hold(12, 0);
+            }
+        }
+        Call::Repair => {
+            let needed = 4 * verdict.faults.chunks().len() as u64;
+            if lent < needed {
+                verdict.hold(10, needed);
             }
         }
     }

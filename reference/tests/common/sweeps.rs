@@ -1,6 +1,6 @@
 //! Small scopes gone through completely: every case of a kind on the worked
-//! example of 01, on small volumes or, for what is free, on the largest one,
-//! without chance.
+//! example of 01, on small volumes or, for what is free and what is repaired,
+//! on the largest one, without chance.
 
 use sumbilak_reference::inputs::{self, Fields, Shape, FENCE, TWO_32, X, X32};
 use sumbilak_reference::model;
@@ -18,7 +18,7 @@ const SHAPE: Shape = Shape {
 pub type Sweep = fn(&mut dyn FnMut(Case));
 
 /// Every sweep, by name.
-pub const ALL: [(&str, Sweep); 14] = [
+pub const ALL: [(&str, Sweep); 21] = [
     ("format and load, around every limit", limits),
     ("load, every value of every byte", load_bytes),
     ("load, two words of the tables", load_words),
@@ -33,6 +33,13 @@ pub const ALL: [(&str, Sweep); 14] = [
     ("plan_write and report, every lowest free unit", lowest_unit),
     ("plan_write and report, free units apart", units_apart),
     ("plan_write and load, every lowest free map", lowest_map),
+    ("repair, every value of every byte", repair_bytes),
+    ("repair, two words of the tables", repair_words),
+    ("repair, every length", repair_lengths),
+    ("repair, every list buffer", repair_lists),
+    ("repair, three chunks, every word", repair_three),
+    ("repair, two chunks, every word", repair_two),
+    ("repair, every chunk of the largest volume", repair_largest),
 ];
 
 fn case(call: Call, image: Vec<u8>) -> Case {
@@ -104,46 +111,59 @@ fn limits(give: &mut dyn FnMut(Case)) {
     }
 }
 
-fn load_bytes(give: &mut dyn FnMut(Case)) {
-    let image = example();
+/// The image with every value in every byte.
+fn every_byte(image: &[u8], give: &mut dyn FnMut(Vec<u8>)) {
     for at in 0..image.len() {
         for value in 0..=255 {
-            let mut image = image.clone();
+            let mut image = image.to_vec();
             image[at] = value;
-            give(load(image));
+            give(image);
         }
     }
 }
 
-fn load_words(give: &mut dyn FnMut(Case)) {
-    let image = example();
+/// An image of the example's shape with twelve values in every two words of its
+/// tables.
+fn two_words(image: &[u8], give: &mut dyn FnMut(Vec<u8>)) {
     let words = SHAPE.image_len() / 8 - 4;
     let values = [0, 1, 2, 3, 4, 5, 19, 20, TWO_32 - 1, TWO_32 + 1, X - 1, X];
     for first in 0..words {
         for second in first + 1..words {
             for a in values {
                 for b in values {
-                    let mut image = image.clone();
+                    let mut image = image.to_vec();
                     inputs::put_word(&mut image, 8 * first, a);
                     inputs::put_word(&mut image, 8 * second, b);
-                    give(load(image));
+                    give(image);
                 }
             }
         }
     }
 }
 
-fn load_lengths(give: &mut dyn FnMut(Case)) {
-    let image = example();
+/// The image cut off at either end, and with bytes before it.
+fn every_length(image: &[u8], give: &mut dyn FnMut(Vec<u8>)) {
     for cut in 0..=image.len() {
-        give(load(image[cut..].to_vec()));
-        give(load(image[..image.len() - cut].to_vec()));
+        give(image[cut..].to_vec());
+        give(image[..image.len() - cut].to_vec());
         let mut longer = vec![0xFF; cut];
-        longer.extend(&image);
-        give(load(longer));
+        longer.extend(image);
+        give(longer);
     }
+}
+
+fn load_bytes(give: &mut dyn FnMut(Case)) {
+    every_byte(&example(), &mut |image| give(load(image)));
+}
+
+fn load_words(give: &mut dyn FnMut(Case)) {
+    two_words(&example(), &mut |image| give(load(image)));
+}
+
+fn load_lengths(give: &mut dyn FnMut(Case)) {
+    every_length(&example(), &mut |image| give(load(image)));
     for words in 0..100 {
-        let mut case = load(image.clone());
+        let mut case = load(example());
         case.out.resize(8 * words, 0xA5);
         give(case);
     }
@@ -476,5 +496,158 @@ fn counts(image: &[u8], free: u64, give: &mut dyn FnMut(Case)) {
     give(case(Call::Report, image.to_vec()));
     for units in [free, free + 1] {
         give(case(Call::AlarmCount { units }, image.to_vec()));
+    }
+}
+
+/// A repair with a list buffer of so many bytes.
+fn repair_in(room: usize, image: Vec<u8>) -> Case {
+    Case {
+        out: vec![0xA5; room],
+        ..case(Call::Repair, image)
+    }
+}
+
+/// A repair with room for all chunks of a small volume, and a little more.
+fn repair(image: Vec<u8>) -> Case {
+    repair_in(18, image)
+}
+
+fn repair_bytes(give: &mut dyn FnMut(Case)) {
+    every_byte(&example(), &mut |image| give(repair(image)));
+}
+
+fn repair_words(give: &mut dyn FnMut(Case)) {
+    two_words(&example(), &mut |image| give(repair(image)));
+}
+
+fn repair_lengths(give: &mut dyn FnMut(Case)) {
+    every_length(&example(), &mut |image| give(repair(image)));
+}
+
+/// Every set of chunks with a bad link, by itself and on top of a shared map;
+/// every room for the list up to one chunk more than there are.
+fn repair_lists(give: &mut dyn FnMut(Case)) {
+    for bad in 0..1u32 << SHAPE.c {
+        for sharing in [false, true] {
+            let mut image = example();
+            if sharing {
+                inputs::put_entry(&mut image, 3, 0);
+            }
+            for chunk in (0..SHAPE.c).filter(|chunk| bad >> chunk & 1 != 0) {
+                inputs::put_entry(&mut image, chunk, SHAPE.m);
+            }
+            for room in 0..=20 {
+                give(repair_in(room, image.clone()));
+            }
+        }
+    }
+}
+
+/// Every link of each chunk (one of the first C maps, a bad one, X) with every
+/// word of the maps that are named (one of `words`). A map that no chunk names
+/// holds litter.
+fn every_table(shape: &Shape, words: &[u64], give: &mut dyn FnMut(Case)) {
+    let Shape { p, c, m, n } = *shape;
+    let mut litter = inputs::fresh(shape);
+    for (at, value) in (0..m * p).zip([0, n, 1, X, X - 1, 0].into_iter().cycle()) {
+        inputs::put_word(&mut litter, shape.word_at(0, at), value);
+    }
+    let links: Vec<u64> = (0..c).chain([m, X]).collect();
+    let digit = |number: usize, base: usize, at: u32| number / base.pow(at) % base;
+    for choice in 0..links.len().pow(c as u32) {
+        let mut image = litter.clone();
+        for chunk in 0..c {
+            let link = links[digit(choice, links.len(), chunk as u32)];
+            inputs::put_entry(&mut image, chunk, link);
+        }
+        let named = |map: &u64| (0..c).any(|chunk| inputs::entry(&image, chunk) == *map);
+        let places: Vec<usize> = (0..c)
+            .filter(named)
+            .flat_map(|map| (0..p).map(move |word| shape.word_at(map, word)))
+            .collect();
+        for choice in 0..words.len().pow(places.len() as u32) {
+            for (at, &place) in (0..).zip(&places) {
+                let value = words[digit(choice, words.len(), at)];
+                inputs::put_word(&mut image, place, value);
+            }
+            give(repair(image.clone()));
+        }
+    }
+}
+
+/// Three chunks of two words: every way in which two or three of them share
+/// maps and units, next to bad ones. A word is one of the three units there
+/// are, the least number that is none, or X.
+fn repair_three(give: &mut dyn FnMut(Case)) {
+    let shape = Shape {
+        p: 2,
+        c: 3,
+        m: 4,
+        n: 3,
+    };
+    every_table(&shape, &[0, 1, 2, 3, X], give);
+}
+
+/// Two chunks of three words: every form of a map beside every other.
+fn repair_two(give: &mut dyn FnMut(Case)) {
+    let shape = Shape {
+        p: 3,
+        c: 2,
+        m: 3,
+        n: 3,
+    };
+    every_table(&shape, &[0, 1, 3, X], give);
+}
+
+/// A volume of the largest shape, all chunks raw: each chunk at fault by itself
+/// in each way, or with the next one; then all of them at once.
+fn repair_largest(give: &mut dyn FnMut(Case)) {
+    let shape = largest(4608);
+    let full = inputs::with_free(&shape, |unit| unit >= 4096);
+    // Byte position and value of a word of a chunk's map.
+    let place = |chunk: u64, word: u64| shape.word_at(inputs::entry(&full, chunk), word);
+    let unit = |chunk: u64, word: u64| inputs::word(&full, place(chunk, word));
+    let next = |chunk: u64| (chunk + 1) % shape.c;
+    let with = |at: usize, value: u64| {
+        let mut image = full.clone();
+        inputs::put_word(&mut image, at, value);
+        image
+    };
+    for chunk in 0..shape.c {
+        let entry = 8 * chunk as usize;
+        give(repair_in(4, with(entry, TWO_32 + chunk)));
+        give(repair_in(4, with(place(chunk, 15), 4608)));
+        give(repair_in(4, with(place(chunk, 15), unit(chunk, 3))));
+        // The last one and the first clash as well.
+        give(repair_in(8, with(entry, inputs::entry(&full, next(chunk)))));
+        give(repair_in(8, with(place(chunk, 15), unit(next(chunk), 0))));
+        if chunk % 16 == 0 {
+            // In another word of a set of chunks; the list a byte short.
+            let far = (chunk + 100) % shape.c;
+            for room in [7, 8] {
+                give(repair_in(room, with(place(chunk, 15), unit(far, 0))));
+            }
+        }
+    }
+    // Every chunk: bad links, bad maps, one map, one unit, a ring of them.
+    let all = |word: &dyn Fn(u64) -> (usize, u64)| {
+        let mut image = full.clone();
+        for chunk in 0..shape.c {
+            let (at, value) = word(chunk);
+            inputs::put_word(&mut image, at, value);
+        }
+        image
+    };
+    for image in [
+        all(&|chunk| (8 * chunk as usize, shape.m)),
+        all(&|chunk| (place(chunk, 0), X)),
+        all(&|chunk| (8 * chunk as usize, 17)),
+        all(&|chunk| (place(chunk, 15), 0)),
+        all(&|chunk| (place(chunk, 15), unit(next(chunk), 0))),
+        full.clone(),
+    ] {
+        for room in [0, 4, 1019, 1023, 1024, 1025, 1100] {
+            give(repair_in(room, image.clone()));
+        }
     }
 }
