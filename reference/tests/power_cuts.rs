@@ -1,14 +1,15 @@
 //! A power-cut simulator over the proved library.
 //!
-//! The library formats, plans, checks and carries out; the cut rule, the
+//! The library formats, repairs, plans, checks and carries out; the cut rule, the
 //! landing of single words, the units' contents and the ledger are the
 //! simulator's own, from 01. After every event the image found has to load
 //! and to be sound, no unit has two owners, every chunk holds what the ledger
 //! gives it, and the chunk in flight holds all its new pieces or all its old
 //! ones.
 //!
-//! Lists of events are random on many volumes and exhaustive on small ones.
-//! Rules that are wrong on purpose show that the simulator can fail.
+//! Lists of events are random on many volumes and exhaustive on small ones, and
+//! start from format or from a repair. Rules that are wrong on purpose show that
+//! the simulator can fail.
 //!
 //! `SUMBILAK_LISTS` runs so many times as many random lists, `SUMBILAK_SEED`
 //! changes their seed, `SUMBILAK_STORIES` prints the lists that wrong rules
@@ -28,6 +29,8 @@ mod lists;
 mod old_link;
 #[path = "power_cuts/plans.rs"]
 mod plans;
+#[path = "power_cuts/repaired.rs"]
+mod repaired;
 #[path = "power_cuts/rules.rs"]
 mod rules;
 #[path = "power_cuts/simulate.rs"]
@@ -42,7 +45,7 @@ use std::env;
 use std::time::Instant;
 
 use event::{Hand, Request, DATA, LINK, MAP};
-use exhaustive::{explore, Plans, Scope, Tally};
+use exhaustive::{explore, Plans, Scope, Start, Tally};
 use figures::{print, row, table, Figures};
 use lists::Case;
 use rules::{Library, Rules};
@@ -196,7 +199,7 @@ const WORKED_THROUGH: [(u64, u64); 3] = [(2, 6144), (0, 3072), (0, 5120)];
 const fn closure(shape: Shape, plans: Plans) -> Scope {
     Scope {
         shape,
-        start: &[],
+        start: Start::Format(&[]),
         plans,
         depth: None,
     }
@@ -206,7 +209,7 @@ const fn closure(shape: Shape, plans: Plans) -> Scope {
 const fn lists_to(length: usize, shape: Shape) -> Scope {
     Scope {
         shape,
-        start: &[],
+        start: Start::Format(&[]),
         plans: Plans::Two,
         depth: Some(length),
     }
@@ -223,7 +226,7 @@ const SCOPES: [Scope; 21] = [
     lists_to(1, shape(4, 4, 5, 20)),
     Scope {
         shape: VOLUME_64K,
-        start: &WORKED_THROUGH,
+        start: Start::Format(&WORKED_THROUGH),
         plans: Plans::Edits,
         depth: Some(1),
     },
@@ -279,7 +282,7 @@ fn small_volumes_exhaustively() {
         };
         let mut cells = vec![scope.plans.name().to_string(), lists];
         cells.extend(tally.cells().map(|figure| figure.to_string()));
-        let started = if scope.start.is_empty() {
+        let started = if scope.start == Start::Format(&[]) {
             ""
         } else {
             ", worked through"

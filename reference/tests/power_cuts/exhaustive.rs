@@ -12,6 +12,7 @@ use crate::event::{Event, Hand, Leftovers, Payload, Request, DATA};
 use crate::figures::Figures;
 use crate::lists::Case;
 use crate::plans::{replace_map, replace_unit};
+use crate::repaired::{every_image, repaired, Repairs};
 use crate::rules::{carry_step, first, land, landed, Rules};
 use crate::simulate::{Due, Simulator, Violation};
 use crate::volume::{Held, Reading, Volume};
@@ -42,10 +43,18 @@ impl Plans {
     }
 }
 
+/// Where the lists of a scope start.
+#[derive(Clone, Copy, Debug, PartialEq, Eq)]
+pub enum Start {
+    /// At the image that format writes, after these writes, by chunk and size.
+    Format(&'static [(u64, u64)]),
+    /// At what a repair leaves of each image of [`every_image`].
+    EveryRepair,
+}
+
 pub struct Scope {
     pub shape: Shape,
-    /// Writes, by chunk and size, that are finished before anything is tried.
-    pub start: &'static [(u64, u64)],
+    pub start: Start,
     pub plans: Plans,
     /// Events in a list at most; None goes on until nothing new is reached,
     /// and so covers lists of every length.
@@ -74,6 +83,7 @@ pub struct Tally {
     pub events: u64,
     pub carried: u64,
     pub violations: u64,
+    pub repairs: Repairs,
 }
 
 impl Tally {
@@ -106,6 +116,7 @@ impl AddAssign<&Tally> for Tally {
         self.events += other.events;
         self.carried += other.carried;
         self.violations += other.violations;
+        self.repairs += &other.repairs;
     }
 }
 
@@ -410,6 +421,51 @@ impl<R: Rules> Explorer<'_, R> {
         true
     }
 
+    /// One more state to start from, unless it is known; false if it tells of
+    /// a violation.
+    fn begin(&mut self, volume: Volume) -> bool {
+        let harmed = self.violations.iter().any(Violation::harms);
+        if self.failed() {
+            self.next = volume;
+            return false;
+        }
+        key(&volume, self.scope.renames(), &mut self.key);
+        if !harmed && self.known.insert(self.key.clone()) {
+            self.nodes.push(Node {
+                volume,
+                depth: 0,
+                from: None,
+            });
+        }
+        true
+    }
+
+    /// The states that a repair leaves of every image.
+    fn begin_repaired(&mut self) -> Option<Case> {
+        let simulator = self.simulator;
+        let shape = &simulator.shape;
+        let mut failed = false;
+        every_image(shape, &mut |damaged| {
+            if failed {
+                return;
+            }
+            let units = (1..=shape.n).collect();
+            let repairs = &mut self.tally.repairs;
+            let mut volume = repaired(simulator, damaged, units, repairs, &mut self.violations);
+            if self.scope.renames() && self.violations.is_empty() {
+                rename(shape, &mut volume);
+            }
+            failed = !self.begin(volume);
+        });
+        failed.then(|| Case {
+            shape: *shape,
+            origin: "a repair".to_string(),
+            start: self.next.clone(),
+            events: Vec::new(),
+            violations: self.violations.clone(),
+        })
+    }
+
     /// The list of events that leads to a node, and on to this event.
     fn case(&self, at: usize, last: Option<Event>) -> Case {
         let mut events = Vec::from_iter(last);
@@ -424,7 +480,7 @@ impl<R: Rules> Explorer<'_, R> {
         Case {
             shape: self.simulator.shape,
             origin: "found exhaustively".to_string(),
-            start: self.nodes[0].volume.clone(),
+            start: self.nodes[at].volume.clone(),
             events,
             violations: self.violations.clone(),
         }
@@ -469,15 +525,15 @@ impl<R: Rules> Explorer<'_, R> {
     }
 }
 
-/// The state that a scope starts from.
-fn start<R: Rules>(simulator: &Simulator<R>, scope: &Scope) -> Volume {
+/// The state after these writes.
+fn start<R: Rules>(simulator: &Simulator<R>, scope: &Scope, writes: &[(u64, u64)]) -> Volume {
     let shape = &scope.shape;
     let mut tag = STALE;
     let mut volume = Volume::formatted(shape, || {
         tag += u64::from(!scope.renames());
         tag
     });
-    for (number, &(chunk, size)) in (1..).zip(scope.start) {
+    for (number, &(chunk, size)) in (1..).zip(writes) {
         let request = Request {
             chunk,
             size: Some(size),
@@ -505,16 +561,19 @@ fn start<R: Rules>(simulator: &Simulator<R>, scope: &Scope) -> Volume {
     volume
 }
 
-/// Explores a volume from the image that format writes, or from the scope's
-/// start. Answers what was tried, and the first case that ended in a violation
-/// that tells.
+/// Explores a volume from the scope's start. Answers what was tried, and the
+/// first case that ended in a violation that tells.
 pub fn explore<R: Rules>(
     rules: &R,
     scope: &Scope,
     tells: &dyn Fn(&Violation) -> bool,
 ) -> (Tally, Option<Case>) {
     let simulator = Simulator::new(rules, scope.shape);
-    let start = start(&simulator, scope);
+    let writes = match scope.start {
+        Start::Format(writes) => writes,
+        Start::EveryRepair => &[],
+    };
+    let start = start(&simulator, scope, writes);
     let mut explorer = Explorer {
         simulator: &simulator,
         scope,
@@ -526,14 +585,14 @@ pub fn explore<R: Rules>(
         key: Vec::new(),
         violations: Vec::new(),
     };
-    key(&start, scope.renames(), &mut explorer.key);
-    explorer.known.insert(explorer.key.clone());
-    explorer.nodes.push(Node {
-        volume: start,
-        depth: 0,
-        from: None,
-    });
-    let case = explorer.explore();
+    let case = match scope.start {
+        Start::Format(_) => {
+            explorer.begin(start);
+            None
+        }
+        Start::EveryRepair => explorer.begin_repaired(),
+    };
+    let case = case.or_else(|| explorer.explore());
     explorer.tally.violations = u64::from(case.is_some());
     (explorer.tally, case)
 }

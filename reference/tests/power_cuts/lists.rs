@@ -221,22 +221,38 @@ impl<R: Rules> Source<'_, R> {
     }
 }
 
+/// Makes the volume that a list starts from. What is wrong with it already goes
+/// to the violations.
+pub type Start<'a, R> = dyn FnMut(&Simulator<R>, &mut Rng, &mut Vec<Violation>) -> Volume + 'a;
+
+/// The image that format writes, or any sound one.
+fn formatted_or_scattered<R: Rules>(
+    simulator: &Simulator<R>,
+    rng: &mut Rng,
+    _: &mut Vec<Violation>,
+) -> Volume {
+    let shape = &simulator.shape;
+    if rng.chance(50) {
+        Volume::formatted(shape, || rng.next_u64())
+    } else {
+        let full = rng.pick(&[25, 50, 75, 90, 100]);
+        Volume::scattered(rng, shape, full)
+    }
+}
+
 /// Runs one list. Only violations that `tells` picks are counted: where a rule
 /// is wrong on purpose, others are beside the point.
-pub fn run_list<R: Rules>(
+fn run_list<R: Rules>(
     simulator: &Simulator<R>,
+    start: &mut Start<R>,
     seed: u64,
     tells: &dyn Fn(&Violation) -> bool,
     figures: &mut Figures,
 ) -> Option<Case> {
     let shape = &simulator.shape;
     let mut rng = Rng::new(seed);
-    let start = if rng.chance(50) {
-        Volume::formatted(shape, || rng.next_u64())
-    } else {
-        let full = rng.pick(&[25, 50, 75, 90, 100]);
-        Volume::scattered(&mut rng, shape, full)
-    };
+    let mut violations = Vec::new();
+    let start = start(simulator, &mut rng, &mut violations);
     let mut hot: Vec<u64> = (0..shape.c).collect();
     rng.shuffle(&mut hot);
     hot.truncate(rng.between(1, 4) as usize);
@@ -251,11 +267,13 @@ pub fn run_list<R: Rules>(
     figures.lists += 1;
     let mut volume = start.clone();
     let mut events = Vec::new();
-    let mut violations = Vec::new();
-    for _ in 0..length {
-        let event = source.event(&volume, &mut violations);
-        simulator.event(&mut volume, &event, figures, &mut violations);
-        events.push(event);
+    // What is wrong before the first event is asked first.
+    for at in 0..=length {
+        if at > 0 {
+            let event = source.event(&volume, &mut violations);
+            simulator.event(&mut volume, &event, figures, &mut violations);
+            events.push(event);
+        }
         let harmed = violations.iter().any(Violation::harms);
         violations.retain(tells);
         if !violations.is_empty() {
@@ -284,9 +302,24 @@ pub fn run<R: Rules>(
     tells: &dyn Fn(&Violation) -> bool,
     figures: &mut Figures,
 ) -> Option<Case> {
+    let start = &mut formatted_or_scattered;
+    run_from(rules, shape, start, lists, seed, tells, figures)
+}
+
+/// The same, from volumes of another making.
+pub fn run_from<R: Rules>(
+    rules: &R,
+    shape: Shape,
+    start: &mut Start<R>,
+    lists: u64,
+    seed: u64,
+    tells: &dyn Fn(&Violation) -> bool,
+    figures: &mut Figures,
+) -> Option<Case> {
     let simulator = Simulator::new(rules, shape);
     (0..lists).find_map(|at| {
-        let case = run_list(&simulator, mix(seed.wrapping_add(at)), tells, figures)?;
+        let seed = mix(seed.wrapping_add(at));
+        let case = run_list(&simulator, start, seed, tells, figures)?;
         Some(case.shortened(&simulator))
     })
 }

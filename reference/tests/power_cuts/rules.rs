@@ -43,6 +43,14 @@ pub trait Rules {
         }
     }
 
+    fn repair(&self, _shape: &Shape, image: &mut [u8], out: &mut [u8]) -> CAnswer {
+        ffi::repair(image, out)
+    }
+
+    /// What a repaired image is on the device: "wholly written back and
+    /// fenced" (02, request 3).
+    fn write_back(&self, _damaged: &[u8], _repaired: &mut [u8]) {}
+
     /// How many of the first `n` steps are known to have landed.
     fn fenced(&self, steps: &[Fields], n: usize) -> usize {
         fenced(steps, n)

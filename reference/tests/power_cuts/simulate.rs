@@ -3,13 +3,15 @@
 use std::fmt;
 
 use sumbilak_reference::ffi::{self, CAnswer, LOAD_WORDS};
-use sumbilak_reference::inputs::{assemble, decode, encode, entry, Fields, Shape, FENCE, X, X32};
+use sumbilak_reference::inputs::{
+    assemble, decode, encode, entry, put_entry, Fields, Shape, FENCE, X, X32,
+};
 use sumbilak_reference::model::{self, Loaded, Refusal};
 
 use crate::event::{Event, Hand, Request, LINK};
 use crate::figures::Figures;
 use crate::rules::{carry_step, first, land, landed, Rules};
-use crate::volume::{Flaw, Held, Reading, Volume, TRAILER};
+use crate::volume::{faults, Flaw, Held, Reading, Volume, TRAILER};
 
 /// What went wrong.
 #[derive(Clone, Debug, PartialEq)]
@@ -51,6 +53,12 @@ pub enum Violation {
     Planner { answer: CAnswer, plan: Vec<Fields> },
     /// A plan that has to pass, or one that must not.
     Verdict { answer: CAnswer, due: Due },
+    /// A repair with another answer, list or byte than 02, request 3, gives.
+    Repair {
+        answer: CAnswer,
+        due: Vec<u64>,
+        damaged: Vec<u8>,
+    },
     /// Another answer than the model's or the reading's.
     Answer {
         call: &'static str,
@@ -85,6 +93,7 @@ impl Violation {
             Violation::NotAsCarried { .. } => "not as carried out",
             Violation::Planner { .. } => "planner",
             Violation::Verdict { .. } => "verdict",
+            Violation::Repair { .. } => "repair",
             Violation::Answer { .. } => "answer",
         }
     }
@@ -100,6 +109,7 @@ impl Violation {
                 | Violation::Carry { .. }
                 | Violation::Planner { .. }
                 | Violation::Verdict { .. }
+                | Violation::Repair { .. }
                 | Violation::Answer { .. }
         )
     }
@@ -168,6 +178,39 @@ impl<'a, R: Rules> Simulator<'a, R> {
             shape,
             trailer,
         }
+    }
+
+    /// Repairs an image, and holds all of it to 02, request 3: "Only the
+    /// entries of those chunks change, to X; the list of unlinked chunks comes
+    /// out in rising order, a u32 each."
+    pub fn repair(&self, damaged: &[u8], violations: &mut Vec<Violation>) -> Vec<u8> {
+        let shape = &self.shape;
+        let mut image = damaged.to_vec();
+        let mut out = vec![0xEE; 4 * shape.c as usize + 4];
+        let mut due_image = image.clone();
+        let mut due_out = out.clone();
+        let answer = self.rules.repair(shape, &mut image, &mut out);
+        let due: Vec<u64> = faults(shape, damaged)
+            .into_iter()
+            .map(|(chunk, _)| chunk)
+            .collect();
+        for (at, &chunk) in due.iter().enumerate() {
+            put_entry(&mut due_image, chunk, X);
+            let slot = &mut due_out[4 * at..4 * at + 4];
+            slot.copy_from_slice(&(chunk as u32).to_le_bytes());
+        }
+        let good = triple(answer) == [0; 3]
+            && [answer.value, answer.extent] == [due.len() as u64, 0]
+            && image == due_image
+            && out == due_out;
+        if !good {
+            violations.push(Violation::Repair {
+                answer,
+                due,
+                damaged: damaged.to_vec(),
+            });
+        }
+        image
     }
 
     /// Asks the planner, and holds its answer to 01: the k lowest free units,

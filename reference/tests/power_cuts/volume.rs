@@ -96,6 +96,18 @@ impl Volume {
         volume
     }
 
+    /// "a chunk with no landed plan since holding what that image gives it"
+    /// (02, request 3): the ledger starts with it.
+    pub fn holding(shape: &Shape, image: Vec<u8>, units: Vec<u64>) -> Self {
+        let pieces = |chunk: u64| Held::of(shape, &image, chunk).pieces(&units).collect();
+        let ledger = (0..shape.c).map(pieces).collect();
+        Volume {
+            image,
+            units,
+            ledger,
+        }
+    }
+
     pub fn trailer(&self) -> &[u8] {
         &self.image[self.image.len() - TRAILER..]
     }
@@ -239,4 +251,86 @@ impl Reading {
         }
         words
     }
+}
+
+/// Why a repair unlinks a chunk (02, request 3); the first of these that holds.
+#[derive(Clone, Copy, Debug, PartialEq, Eq)]
+pub enum Fault {
+    /// "every chunk with a bad link"
+    Link,
+    /// "or bad map"
+    Map,
+    /// "and then, among chunks with good links and maps, every chunk that
+    /// shares a map"
+    SharedMap,
+    /// "or unit with another"
+    SharedUnit,
+    /// "or names a unit twice"
+    UnitTwice,
+}
+
+impl Fault {
+    pub const NAMES: [&'static str; 5] = [
+        "bad link",
+        "bad map",
+        "shared map",
+        "shared unit",
+        "unit twice",
+    ];
+
+    pub fn index(self) -> usize {
+        self as usize
+    }
+}
+
+/// The chunks that a repair unlinks, rising, by who owns what among the good
+/// ones.
+pub fn faults(shape: &Shape, image: &[u8]) -> Vec<(u64, Fault)> {
+    let mut map_owners = vec![Vec::new(); shape.m as usize];
+    let mut unit_owners = vec![Vec::new(); shape.n as usize];
+    let mut alone: Vec<Option<Fault>> = Vec::new();
+    for chunk in 0..shape.c {
+        let map = entry(image, chunk);
+        let held = Held::of(shape, image, chunk);
+        let k = held.units().len() as u64;
+        let mut rest = (k..shape.p).map(|at| word(image, shape.word_at(map, at)));
+        let fault = match map {
+            X => None,
+            _ if map >= shape.m => Some(Fault::Link),
+            _ if k == 0 || rest.any(|word| word != X) => Some(Fault::Map),
+            _ => None,
+        };
+        if map != X && fault.is_none() {
+            map_owners[map as usize].push(chunk);
+            for &unit in held.units() {
+                unit_owners[unit].push(chunk);
+            }
+        }
+        alone.push(fault);
+    }
+    let together = |chunk: u64| {
+        let map = entry(image, chunk);
+        if map == X {
+            return None;
+        }
+        let held = Held::of(shape, image, chunk);
+        let owned = |others: bool| {
+            let owners = held.units().iter().map(|&unit| &unit_owners[unit]);
+            owners.into_iter().any(|owners| match others {
+                true => owners.iter().any(|&owner| owner != chunk),
+                false => owners.len() > 1,
+            })
+        };
+        if map_owners[map as usize].len() > 1 {
+            Some(Fault::SharedMap)
+        } else if owned(true) {
+            Some(Fault::SharedUnit)
+        } else {
+            owned(false).then_some(Fault::UnitTwice)
+        }
+    };
+    (0..shape.c)
+        .zip(alone)
+        .filter_map(|(chunk, alone)| Some((chunk, alone.or_else(|| together(chunk))?)))
+        .collect()
 }

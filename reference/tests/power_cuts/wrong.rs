@@ -9,7 +9,7 @@ use sumbilak_reference::inputs::{
 
 use crate::event::{Request, LINK, MAP};
 use crate::rules::{carry_step, check, Fate, Library, Rules};
-use crate::volume::Held;
+use crate::volume::{faults, Fault, Held};
 
 const GOOD: CAnswer = CAnswer {
     number: 0,
@@ -323,6 +323,154 @@ impl Rules for Carrier {
                 refusal(7, 0)
             }
             _ => carry_as_judged(shape, image, plan, n, verdict),
+        }
+    }
+}
+
+/// What a repair is.
+pub type RepairFn = fn(&Shape, &mut [u8], &mut [u8]) -> CAnswer;
+
+/// A wrong repair.
+pub struct Repair(pub RepairFn);
+
+impl Rules for Repair {
+    fn repair(&self, shape: &Shape, image: &mut [u8], out: &mut [u8]) -> CAnswer {
+        (self.0)(shape, image, out)
+    }
+}
+
+/// Unlinks these chunks.
+fn unlink(image: &mut [u8], chunks: &[u64], out: &mut [u8]) -> CAnswer {
+    for (&chunk, slot) in chunks.iter().zip(out.chunks_exact_mut(4)) {
+        put_entry(image, chunk, X);
+        slot.copy_from_slice(&(chunk as u32).to_le_bytes());
+    }
+    CAnswer {
+        value: chunks.len() as u64,
+        ..GOOD
+    }
+}
+
+/// Repairs all but faults of these kinds.
+fn repair_but(left: &[Fault], shape: &Shape, image: &mut [u8], out: &mut [u8]) -> CAnswer {
+    let chunks: Vec<u64> = faults(shape, image)
+        .into_iter()
+        .filter(|(_, fault)| !left.contains(fault))
+        .map(|(chunk, _)| chunk)
+        .collect();
+    unlink(image, &chunks, out)
+}
+
+pub fn repair_of_links_and_maps(shape: &Shape, image: &mut [u8], out: &mut [u8]) -> CAnswer {
+    let clashes = [Fault::SharedMap, Fault::SharedUnit, Fault::UnitTwice];
+    repair_but(&clashes, shape, image, out)
+}
+
+pub fn repair_with_maps_shared(shape: &Shape, image: &mut [u8], out: &mut [u8]) -> CAnswer {
+    repair_but(&[Fault::SharedMap], shape, image, out)
+}
+
+pub fn repair_with_units_twice(shape: &Shape, image: &mut [u8], out: &mut [u8]) -> CAnswer {
+    repair_but(&[Fault::UnitTwice], shape, image, out)
+}
+
+pub fn repair_with_bad_maps(shape: &Shape, image: &mut [u8], out: &mut [u8]) -> CAnswer {
+    repair_but(&[Fault::Map], shape, image, out)
+}
+
+pub fn repair_with_bad_links(shape: &Shape, image: &mut [u8], out: &mut [u8]) -> CAnswer {
+    repair_but(&[Fault::Link], shape, image, out)
+}
+
+/// Unlinks what is bad by itself; then goes over the chunks in this order, and
+/// whoever finds all that it names unclaimed keeps it.
+fn repair_in_order(
+    shape: &Shape,
+    image: &mut [u8],
+    out: &mut [u8],
+    order: impl Iterator<Item = u64>,
+) -> CAnswer {
+    let found = faults(shape, image);
+    let mut gone: Vec<u64> = found
+        .iter()
+        .filter(|(_, fault)| matches!(fault, Fault::Link | Fault::Map))
+        .map(|(chunk, _)| *chunk)
+        .collect();
+    let mut claimed = Vec::new();
+    for chunk in order {
+        if entry(image, chunk) == X || gone.contains(&chunk) {
+            continue;
+        }
+        let held = Held::of(shape, image, chunk);
+        let units = held.units();
+        let twice = (1..units.len()).any(|at| units[..at].contains(&units[at]));
+        if twice || units.iter().any(|unit| claimed.contains(unit)) {
+            gone.push(chunk);
+        } else {
+            claimed.extend_from_slice(units);
+        }
+    }
+    gone.sort_unstable();
+    unlink(image, &gone, out)
+}
+
+/// "On a double claim, letting the later chunk win." (01)
+pub fn repair_for_the_later(shape: &Shape, image: &mut [u8], out: &mut [u8]) -> CAnswer {
+    repair_in_order(shape, image, out, (0..shape.c).rev())
+}
+
+pub fn repair_for_the_earlier(shape: &Shape, image: &mut [u8], out: &mut [u8]) -> CAnswer {
+    repair_in_order(shape, image, out, 0..shape.c)
+}
+
+/// A good chunk goes, too, where a bad map names one of its units.
+pub fn repair_with_bad_claims(shape: &Shape, image: &mut [u8], out: &mut [u8]) -> CAnswer {
+    let found = faults(shape, image);
+    let borrowed: Vec<u64> = found
+        .iter()
+        .filter(|(_, fault)| *fault == Fault::Map)
+        .flat_map(|&(chunk, _)| {
+            let map = entry(image, chunk);
+            let words = (0..shape.p).map(|at| word(image, shape.word_at(map, at)));
+            words.collect::<Vec<u64>>()
+        })
+        .collect();
+    let goes = |&chunk: &u64| {
+        let held = Held::of(shape, image, chunk);
+        let lends = held
+            .units()
+            .iter()
+            .any(|&unit| borrowed.contains(&(unit as u64)));
+        lends || found.iter().any(|(faulty, _)| *faulty == chunk)
+    };
+    let chunks: Vec<u64> = (0..shape.c).filter(goes).collect();
+    unlink(image, &chunks, out)
+}
+
+/// Writes X over the maps of the chunks that go.
+pub fn repair_and_wipe(shape: &Shape, image: &mut [u8], out: &mut [u8]) -> CAnswer {
+    let chunks: Vec<u64> = faults(shape, image)
+        .into_iter()
+        .map(|(chunk, _)| chunk)
+        .collect();
+    for &chunk in &chunks {
+        let map = entry(image, chunk);
+        if map < shape.m {
+            (0..shape.p).for_each(|at| put_word(image, shape.word_at(map, at), X));
+        }
+    }
+    unlink(image, &chunks, out)
+}
+
+/// A repaired image of which the last changed entry has not landed.
+pub struct HalfWrittenBack;
+
+impl Rules for HalfWrittenBack {
+    fn write_back(&self, damaged: &[u8], repaired: &mut [u8]) {
+        let differs = |&at: &usize| damaged[at] != repaired[at];
+        if let Some(last) = (0..damaged.len()).rev().find(differs) {
+            let at = last / 8 * 8;
+            repaired[at..at + 8].copy_from_slice(&damaged[at..at + 8]);
         }
     }
 }

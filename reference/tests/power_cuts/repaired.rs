@@ -1,0 +1,387 @@
+//! Lists that begin with a repair: "Demand 3 and its ledger then start from the
+//! repaired image once it is wholly written back and fenced, a chunk with no
+//! landed plan since holding what that image gives it" (02, request 3).
+
+use std::ops::AddAssign;
+use std::time::Instant;
+
+use sumbilak_reference::inputs::{self, put_word, Shape, X};
+use sumbilak_reference::rng::{mix, Rng};
+
+use crate::exhaustive::{explore, Plans, Scope, Start, Tally};
+use crate::figures::{print, row, table, Figures};
+use crate::lists::{self, Case};
+use crate::rules::{Library, Rules};
+use crate::simulate::{Simulator, Violation};
+use crate::volume::{faults, Fault, Volume};
+use crate::{any, name, seed, shape, times, wrong, CHANCES, VOLUMES, VOLUME_64K};
+use crate::{LEDGER, LOAD, NO_MAP, TWO_OWNERS};
+
+/// What was repaired.
+#[derive(Clone, Debug, Default)]
+pub struct Repairs {
+    pub images: u64,
+    /// Images with a fault of each kind, and with faults of two kinds or more.
+    pub kinds: [u64; Fault::NAMES.len()],
+    pub several: u64,
+    /// Chunks in the lists.
+    pub unlinked: u64,
+    /// Chunks that are mapped in the repaired images, and images with such.
+    pub mapped: u64,
+    pub with_mapped: u64,
+}
+
+impl Repairs {
+    fn cells(&self) -> Vec<u64> {
+        let mut cells = vec![self.images];
+        cells.extend(self.kinds);
+        cells.extend([self.several, self.unlinked, self.mapped, self.with_mapped]);
+        cells
+    }
+
+    fn titles() -> Vec<&'static str> {
+        let mut titles = vec!["images"];
+        titles.extend(Fault::NAMES);
+        titles.extend([
+            "two kinds or more",
+            "chunks unlinked",
+            "chunks left",
+            "images with such",
+        ]);
+        titles
+    }
+}
+
+impl AddAssign<&Repairs> for Repairs {
+    fn add_assign(&mut self, other: &Repairs) {
+        self.images += other.images;
+        for (sum, more) in self.kinds.iter_mut().zip(other.kinds) {
+            *sum += more;
+        }
+        self.several += other.several;
+        self.unlinked += other.unlinked;
+        self.mapped += other.mapped;
+        self.with_mapped += other.with_mapped;
+    }
+}
+
+/// A volume whose image has been repaired and written back; its ledger starts
+/// with what the repaired image gives each chunk.
+pub fn repaired<R: Rules>(
+    simulator: &Simulator<R>,
+    damaged: &[u8],
+    units: Vec<u64>,
+    repairs: &mut Repairs,
+    violations: &mut Vec<Violation>,
+) -> Volume {
+    let shape = &simulator.shape;
+    let image = simulator.repair(damaged, violations);
+    let mapped = inputs::mapped(shape, &image).len() as u64;
+    let found = faults(shape, damaged);
+    let of_kind = |kind: usize| found.iter().any(|(_, fault)| fault.index() == kind);
+    let kinds: Vec<usize> = (0..repairs.kinds.len())
+        .filter(|&kind| of_kind(kind))
+        .collect();
+    repairs.images += 1;
+    kinds.iter().for_each(|&kind| repairs.kinds[kind] += 1);
+    repairs.several += u64::from(kinds.len() > 1);
+    repairs.unlinked += found.len() as u64;
+    repairs.mapped += mapped;
+    repairs.with_mapped += u64::from(mapped > 0);
+
+    let mut volume = Volume::holding(shape, image, units);
+    simulator.rules.write_back(damaged, &mut volume.image);
+    simulator.verify(&volume.image, violations);
+    simulator.verify_pieces(&volume, violations);
+    volume
+}
+
+/// Random damage to a random volume, litter in its dead maps, repaired.
+fn start<R: Rules>(
+    simulator: &Simulator<R>,
+    rng: &mut Rng,
+    repairs: &mut Repairs,
+    violations: &mut Vec<Violation>,
+) -> Volume {
+    let full = rng.pick(&[25, 50, 75, 90, 100]);
+    let Volume {
+        mut image, units, ..
+    } = Volume::scattered(rng, &simulator.shape, full);
+    if !rng.chance(3) {
+        inputs::tables_damaged(rng, &simulator.shape, &mut image);
+    }
+    repaired(simulator, &image, units, repairs, violations)
+}
+
+/// Every image of this geometry: each entry a map, X or the least bad link, each
+/// word of every map a unit, X or the least number that is none.
+pub fn every_image(shape: &Shape, give: &mut dyn FnMut(&[u8])) {
+    let Shape { p, c, m, n } = *shape;
+    let mut image = inputs::fresh(shape);
+    let mut digits = vec![0; (c + m * p) as usize];
+    let value = |at: usize, digit: u64| {
+        let limit = if (at as u64) < c { m } else { n };
+        if digit > limit {
+            X
+        } else {
+            digit
+        }
+    };
+    for at in 0..digits.len() {
+        put_word(&mut image, 8 * at, value(at, 0));
+    }
+    loop {
+        give(&image);
+        let mut at = 0;
+        loop {
+            if at == digits.len() {
+                return;
+            }
+            let was_last = value(at, digits[at]) == X;
+            digits[at] = if was_last { 0 } else { digits[at] + 1 };
+            put_word(&mut image, 8 * at, value(at, digits[at]));
+            if !was_last {
+                break;
+            }
+            at += 1;
+        }
+    }
+}
+
+fn run<R: Rules>(
+    rules: &R,
+    shape: Shape,
+    lists: u64,
+    seed: u64,
+    tells: &dyn Fn(&Violation) -> bool,
+    repairs: &mut Repairs,
+    figures: &mut Figures,
+) -> Option<Case> {
+    let mut start = |simulator: &Simulator<R>, rng: &mut Rng, violations: &mut Vec<Violation>| {
+        start(simulator, rng, repairs, violations)
+    };
+    lists::run_from(rules, shape, &mut start, lists, seed, tells, figures)
+}
+
+#[test]
+fn random_event_lists_after_a_repair() {
+    let begun = Instant::now();
+    let seed = mix(seed());
+    let mut titles = Repairs::titles();
+    titles.extend(["events", "refused", "finished", "cut", "violations"]);
+    let mut rows = vec![row("volume", &titles)];
+    let mut all = (Repairs::default(), Figures::default());
+    let mut failed: Option<Case> = None;
+    let mut tell = |name: &str, repairs: &Repairs, figures: &Figures| {
+        let mut cells = repairs.cells();
+        cells.extend([
+            figures.events,
+            figures.refused,
+            figures.finished,
+            figures.cut,
+            figures.violations,
+        ]);
+        rows.push(row(name, &cells));
+    };
+
+    for (at, (shape, lists)) in (0..).zip(VOLUMES) {
+        let (mut repairs, mut figures) = Default::default();
+        let lists = times(lists.div_ceil(4));
+        let seed = mix(seed ^ at);
+        let case = run(
+            &Library,
+            shape,
+            lists,
+            seed,
+            &any,
+            &mut repairs,
+            &mut figures,
+        );
+        failed = failed.or(case);
+        tell(&name(&shape), &repairs, &figures);
+        all.0 += &repairs;
+        all.1 += &figures;
+    }
+    let (mut repairs, mut figures) = Default::default();
+    let mut rng = Rng::new(seed);
+    for _ in 0..times(100) {
+        let shape = inputs::shape(&mut rng);
+        let seed = rng.next_u64();
+        let case = run(&Library, shape, 1, seed, &any, &mut repairs, &mut figures);
+        failed = failed.or(case);
+    }
+    tell("random geometries", &repairs, &figures);
+    all.0 += &repairs;
+    all.1 += &figures;
+    let (repairs, figures) = &all;
+    tell("all", repairs, figures);
+
+    let title = format!(
+        "Random event lists after a repair, seed {seed:#X}, {:.1?}",
+        begun.elapsed()
+    );
+    print(&table(&title, &rows));
+    if let Some(case) = failed {
+        panic!("{case}");
+    }
+    let seen = |count: u64| 20 * count > repairs.images;
+    assert!(repairs.kinds.into_iter().all(seen), "every kind of damage");
+    assert!(seen(repairs.several), "several at once");
+    assert!(2 * repairs.with_mapped > repairs.images, "chunks left");
+    assert!(figures.finished > 100 && figures.cut_linked > 100 && figures.cut_partial > 100);
+}
+
+/// Volumes of which every image is repaired. What a repair leaves are all sound
+/// images, so that lists of any length go from one of them to another.
+const EVERY_IMAGE: [Scope; 3] = [
+    from_every_image(shape(2, 1, 2, 2)),
+    from_every_image(shape(2, 1, 2, 3)),
+    from_every_image(shape(2, 2, 3, 2)),
+];
+
+const fn from_every_image(shape: Shape) -> Scope {
+    Scope {
+        shape,
+        start: Start::EveryRepair,
+        plans: Plans::EveryChoice,
+        depth: None,
+    }
+}
+
+#[test]
+fn every_image_of_small_volumes_repaired() {
+    let begun = Instant::now();
+    let mut titles = Repairs::titles();
+    titles.extend(["states", "deepest", "subsets", "events", "violations"]);
+    let mut rows = vec![row("volume", &titles)];
+    let mut all = Tally::default();
+    let mut failed = None;
+    let mut tell = |name: &str, tally: &Tally| {
+        let mut cells = tally.repairs.cells();
+        cells.extend([
+            tally.states,
+            tally.deepest as u64,
+            tally.subsets,
+            tally.events,
+            tally.violations,
+        ]);
+        rows.push(row(name, &cells));
+    };
+    for scope in &EVERY_IMAGE {
+        if cfg!(debug_assertions) && scope.shape.c > 1 {
+            break;
+        }
+        let (tally, case) = explore(&Library, scope, &any);
+        failed = failed.or(case);
+        tell(&name(&scope.shape), &tally);
+        all += &tally;
+    }
+    tell("all", &all);
+    let title = format!(
+        "Every image of small volumes, repaired, {:.1?}",
+        begun.elapsed()
+    );
+    print(&table(&title, &rows));
+    if let Some(case) = failed {
+        panic!("{case}");
+    }
+}
+
+/// Runs a wrong repair until each of these violations is seen, by random lists
+/// on the 64 KB volume and from every image of a small one.
+fn notice<R: Rules>(rule: &str, rules: &R, violations: &[&str]) {
+    let mut rows = vec![row("violation", &["random list", "every image, number"])];
+    for &violation in violations {
+        let tells = |seen: &Violation| seen.name() == violation;
+        let (mut repairs, mut figures) = Default::default();
+        let case = run(
+            rules,
+            VOLUME_64K,
+            CHANCES,
+            seed(),
+            &tells,
+            &mut repairs,
+            &mut figures,
+        );
+        assert!(case.is_some(), "{rule}, {violation}: not noticed");
+        let (tally, found) = explore(rules, &EVERY_IMAGE[2], &tells);
+        assert!(found.is_some(), "{rule}, {violation}: not exhaustively");
+        rows.push(row(violation, &[repairs.images, tally.repairs.images]));
+    }
+    print(&table(&format!("Noticed: {rule}"), &rows));
+}
+
+const REPAIR: &str = "repair";
+const BAD_LINK: &str = "bad link";
+const MAP_TWICE: &str = "map with two owners";
+
+/// What a repair leaves unsound, load and the volume's own reading give away.
+#[test]
+fn a_repair_that_leaves_a_fault_is_caught() {
+    let wrong = |repair| wrong::Repair(repair);
+    notice(
+        "clashes left in place",
+        &wrong(wrong::repair_of_links_and_maps),
+        &[TWO_OWNERS, MAP_TWICE, LOAD, REPAIR],
+    );
+    notice(
+        "a shared map left in place",
+        &wrong(wrong::repair_with_maps_shared),
+        &[TWO_OWNERS, MAP_TWICE, LOAD, REPAIR],
+    );
+    notice(
+        "a unit twice in one map left in place",
+        &wrong(wrong::repair_with_units_twice),
+        &[TWO_OWNERS, LOAD, REPAIR],
+    );
+    notice(
+        "bad maps left in place",
+        &wrong(wrong::repair_with_bad_maps),
+        &[NO_MAP, LOAD, REPAIR],
+    );
+    notice(
+        "bad links left in place",
+        &wrong(wrong::repair_with_bad_links),
+        &[BAD_LINK, LOAD, REPAIR],
+    );
+}
+
+/// "once it is wholly written back and fenced" (02, request 3): an entry that
+/// comes back gives its chunk pieces that the ledger does not.
+#[test]
+fn a_repair_not_wholly_written_back_is_caught() {
+    notice(
+        "the last entry not written back",
+        &wrong::HalfWrittenBack,
+        &[LEDGER, LOAD],
+    );
+}
+
+/// What no event list can give away, because the image is sound: that one side
+/// of a clash has stayed, that a good chunk went, or that a dead map changed.
+/// The request's own words on the list and on the bytes do.
+#[test]
+fn a_repair_of_other_chunks_or_bytes_is_caught() {
+    let repairs: [(&str, wrong::RepairFn); 4] = [
+        ("the later chunk wins", wrong::repair_for_the_later),
+        ("the earlier chunk wins", wrong::repair_for_the_earlier),
+        ("bad maps claim units", wrong::repair_with_bad_claims),
+        ("maps of unlinked chunks wiped", wrong::repair_and_wipe),
+    ];
+    for (rule, repair) in repairs {
+        let rules = wrong::Repair(repair);
+        notice(rule, &rules, &[REPAIR]);
+        let others = |seen: &Violation| seen.name() != REPAIR;
+        let (mut repairs, mut figures) = Default::default();
+        let case = run(
+            &rules,
+            VOLUME_64K,
+            20,
+            seed(),
+            &others,
+            &mut repairs,
+            &mut figures,
+        );
+        assert!(case.is_none(), "{rule}: the image is sound");
+    }
+}
