@@ -12,13 +12,15 @@ use std::hint::black_box;
 use std::time::Instant;
 
 use sumbilak_reference::ffi::{self, CAnswer, CReport, LOAD_WORDS};
-use sumbilak_reference::inputs::{free_units, mapped, Shape};
+use sumbilak_reference::inputs::{entry, free_units, mapped, put_word, word, Shape};
 use sumbilak_reference::model::{self, Answer, Report};
 use sumbilak_reference::rng::Rng;
 use sumbilak_reference::timing::{self, least, median, BATCH, BATCHES, TURNS};
 
 /// The longest plan of the planner: "at most 35" steps of 16 bytes (01).
 const PLAN: usize = 35 * 16;
+/// The longest list of a repair: 256 chunks, "a u32 each" (02, request 3).
+const LIST: usize = 256 * 4;
 
 /// What one call is given.
 struct Input {
@@ -37,6 +39,7 @@ struct Output {
     report: CReport,
     words: [u64; LOAD_WORDS],
     plan: [u8; PLAN],
+    list: [u8; LIST],
     image: Vec<u8>,
 }
 
@@ -62,6 +65,7 @@ impl Output {
             })),
             words: [0; LOAD_WORDS],
             plan: [0; PLAN],
+            list: [0; LIST],
             image: input.image.clone(),
         }
     }
@@ -74,8 +78,8 @@ struct Call {
     name: &'static str,
     library: Run,
     model: Run,
-    /// Carrying out changes the image, which is copied anew for each call. The
-    /// copy is timed by itself and deducted from both sides.
+    /// Carrying out and repair change the image, which is copied anew for each
+    /// call. The copy is timed by itself and deducted from both sides.
     copies: bool,
 }
 
@@ -153,6 +157,20 @@ const CALLS: [Call; 6] = [
         copies: false,
     },
 ];
+
+/// Only on volumes of its own: most calls want a sound image.
+const REPAIR: Call = Call {
+    name: "repair",
+    library: |input, out| {
+        copy(input, out);
+        out.answer = ffi::repair(&mut out.image, &mut out.list)
+    },
+    model: |input, out| {
+        copy(input, out);
+        out.answer = by_model::answer(model::repair(&mut out.image, &mut out.list))
+    },
+    copies: true,
+};
 
 fn copy(input: &Input, out: &mut Output) {
     out.image.copy_from_slice(&input.image);
@@ -264,6 +282,28 @@ fn input(shape: &Shape, image: Vec<u8>) -> Input {
     }
 }
 
+/// An image to repair: each chunk's second unit is the next one's first. All
+/// chunks must be mapped, and to two units at least.
+fn clashing(shape: &Shape, sound: &[u8]) -> Input {
+    let mut image = sound.to_vec();
+    let word_at = |chunk: u64, at: u64| shape.word_at(entry(sound, chunk), at);
+    for chunk in 0..shape.c {
+        let next = word_at((chunk + 1) % shape.c, 0);
+        put_word(&mut image, word_at(chunk, 1), word(sound, next));
+    }
+    to_repair(image)
+}
+
+fn to_repair(image: Vec<u8>) -> Input {
+    Input {
+        image,
+        chunk: 0,
+        size: 0,
+        plan: Vec::new(),
+        steps: 0,
+    }
+}
+
 /// One call, of which nothing can be worked out ahead.
 fn once(run: Run, input: &Input, out: &mut Output) {
     let run = black_box(run);
@@ -361,10 +401,22 @@ fn main() {
     })
     .collect();
 
+    let largest = shape(16, 256, 288, 4608);
+    let sound = volume(rng, &largest, 4088);
+    let repairs = [
+        ("largest, every chunk clashing", clashing(&largest, &sound)),
+        ("largest, sound", to_repair(sound)),
+    ];
+
     let mut rows: Vec<Row> = volumes
         .iter()
         .flat_map(|(name, input)| CALLS.iter().map(|call| Row::new(name, input, call)))
         .collect();
+    rows.extend(
+        repairs
+            .iter()
+            .map(|(name, input)| Row::new(name, input, &REPAIR)),
+    );
     for _ in 0..TURNS {
         rows.iter_mut().for_each(Row::turn);
     }
@@ -394,7 +446,7 @@ fn main() {
     for (name, _) in &volumes {
         print_mean(name, &|row| row.volume == name);
     }
-    for call in &CALLS {
+    for call in CALLS.iter().chain([&REPAIR]) {
         print_mean(call.name, &|row| row.call.name == call.name);
     }
     print_mean("all", &|_| true);
@@ -405,8 +457,8 @@ fn main() {
         .map(|row| format!("{:.1}", least(&row.batches[2])))
         .collect();
     println!(
-        "\n{} batches a side of about {BATCH:?}; the image's copy, deducted from carry_write, \
-         took {} ns; {:.1?} in all",
+        "\n{} batches a side of about {BATCH:?}; the image's copy, deducted from carry_write and \
+         repair, took {} ns; {:.1?} in all",
         TURNS * BATCHES,
         copies.join(", "),
         begun.elapsed()

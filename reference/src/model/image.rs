@@ -70,9 +70,8 @@ impl<'a> Words<'a> {
 
     /// Whether a map "holds 1 to P units below N, then only X" (01).
     pub fn is_well_formed(self, map: u64, n: u64) -> bool {
-        let held = self.held(map).count();
-        let mut rest = self.map(map).skip(held);
-        held > 0 && self.held(map).all(|unit| unit < n) && rest.all(|word| word == X)
+        let held = self.map(map).take_while(|&word| word < n).count();
+        held > 0 && self.map(map).skip(held).all(|word| word == X)
     }
 
     /// "The first chunk is the lowest one it clashes with, or itself if none
