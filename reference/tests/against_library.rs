@@ -47,7 +47,8 @@ fn compare(name: &str, at: u64, case: &Case, failures: &mut u64) -> (Outcome, Ve
             &model.answer[..3]
         );
     }
-    if matches!(case.call, Call::Repair) && library.answer[0] == 0 {
+    let answered = [model.answer[0], library.answer[0]] == [0, 0];
+    if answered && matches!(case.call, Call::Repair) {
         text += &repairs::flaws(at, case, &library, &verdict.faults.chunks());
     }
     if !text.is_empty() {

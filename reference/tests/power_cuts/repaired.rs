@@ -2,6 +2,7 @@
 //! repaired image once it is wholly written back and fenced, a chunk with no
 //! landed plan since holding what that image gives it" (02, request 3).
 
+use std::env;
 use std::ops::AddAssign;
 use std::time::Instant;
 
@@ -288,9 +289,11 @@ fn every_image_of_small_volumes_repaired() {
 }
 
 /// Runs a wrong repair until each of these violations is seen, by random lists
-/// on the 64 KB volume and from every image of a small one.
+/// on the 64 KB volume and from every image of a small one. The library's passes
+/// the same lists. With `SUMBILAK_STORIES` set the lists are printed.
 fn notice<R: Rules>(rule: &str, rules: &R, violations: &[&str]) {
     let mut rows = vec![row("violation", &["random list", "every image, number"])];
+    let mut stories = String::new();
     for &violation in violations {
         let tells = |seen: &Violation| seen.name() == violation;
         let (mut repairs, mut figures) = Default::default();
@@ -303,12 +306,27 @@ fn notice<R: Rules>(rule: &str, rules: &R, violations: &[&str]) {
             &mut repairs,
             &mut figures,
         );
-        assert!(case.is_some(), "{rule}, {violation}: not noticed");
+        let case = case.unwrap_or_else(|| panic!("{rule}, {violation}: not noticed"));
+        let (mut control, mut events) = Default::default();
+        let right = run(
+            &Library,
+            VOLUME_64K,
+            repairs.images,
+            seed(),
+            &any,
+            &mut control,
+            &mut events,
+        );
+        assert!(right.is_none(), "{rule}: the right repair fails as well");
         let (tally, found) = explore(rules, &EVERY_IMAGE[2], &tells);
-        assert!(found.is_some(), "{rule}, {violation}: not exhaustively");
+        let found = found.unwrap_or_else(|| panic!("{rule}, {violation}: not exhaustively"));
         rows.push(row(violation, &[repairs.images, tally.repairs.images]));
+        stories += &format!("\n{case}\n{found}");
     }
     print(&table(&format!("Noticed: {rule}"), &rows));
+    if env::var_os("SUMBILAK_STORIES").is_some() {
+        print(&stories);
+    }
 }
 
 const REPAIR: &str = "repair";
