@@ -242,8 +242,7 @@ fn faults(tables: &Tables) -> Faults {
     let entries = (0..).zip(tables.entries.iter().copied());
     let bad_links = entries.filter(|&(_, entry)| entry != X && entry >= tables.m);
     faults.bad_link.extend(bad_links.map(|(chunk, _)| chunk));
-    let (bad, good): (Vec<(u64, u64)>, Vec<(u64, u64)>) =
-        tables.named().partition(|&(_, map)| tables.bad_form(map));
+    let (bad, good): (Vec<_>, Vec<_>) = tables.named().partition(|&(_, map)| tables.bad_form(map));
     faults.bad_map.extend(bad.iter().map(|&(chunk, _)| chunk));
 
     let good_claims = claims(tables, good.into_iter());

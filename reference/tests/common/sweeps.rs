@@ -603,7 +603,8 @@ fn repair_two(give: &mut dyn FnMut(Case)) {
 /// in each way, or with the next one; then all of them at once.
 fn repair_largest(give: &mut dyn FnMut(Case)) {
     let shape = largest(4608);
-    let full = inputs::with_free(&shape, |unit| unit >= 4096);
+    // The highest units are held, and the lowest free.
+    let full = inputs::with_free(&shape, |unit| unit < 512);
     // Byte position and value of a word of a chunk's map.
     let place = |chunk: u64, word: u64| shape.word_at(inputs::entry(&full, chunk), word);
     let unit = |chunk: u64, word: u64| inputs::word(&full, place(chunk, word));
