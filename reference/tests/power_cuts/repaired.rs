@@ -228,7 +228,7 @@ fn random_event_lists_after_a_repair() {
     let seen = |count: u64| 20 * count > repairs.images;
     assert!(repairs.kinds.into_iter().all(seen), "every kind of damage");
     assert!(seen(repairs.several), "several at once");
-    assert!(2 * repairs.with_mapped > repairs.images, "chunks left");
+    assert!(4 * repairs.with_mapped > repairs.images, "chunks left");
     assert!(figures.finished > 100 && figures.cut_linked > 100 && figures.cut_partial > 100);
 }
 
