@@ -3,7 +3,7 @@ use Prim.Native.Nat.{ℕ}
 use mathlib.Core.Path.{_≡_, refl}
 use mathlib.Core.List.{List, [], _∷_}
 use Rattle.words.specs.Words.{number, digits}
-use Rattle.search.specs.Search.{from, all, any, keep, member, distinct, disjoint}
+use Rattle.search.specs.Search.{from, all, any, keep, member, distinct, disjoint, joined}
 use Rattle.layout.specs.declared.Refusal.the-variants.{Short, Small}
 use Rattle.layout.specs.Trailer.{trailerOutcome}
 use Rattle.layout.specs.Layout.{X, fresh, putWord, trailerOf, shapeBytes, sizeBytes, known, fitting, withinLimits, shapeOf, agreeing, wordsOf}
@@ -49,5 +49,5 @@ worked :
     × (repaired badNeighbour ≡ putWord badNeighbour 1 X)
     × (unlinked several ≡ 1 ∷ 2 ∷ 3 ∷ [])
     × (unlinked chain ≡ 0 ∷ 1 ∷ 2 ∷ [])
-unfolding unlinked unlinks bad sharesWith shares namesTwice unlink repaired ifRoom repairAnswer listBytes trailerOutcome clash wellFormed leading unitsOf all any keep member distinct disjoint known fitting withinLimits agreeing fresh trailerOf shapeBytes sizeBytes number digits from shapeOf wordsOf
+unfolding unlinked unlinks bad sharesWith shares namesTwice unlink repaired ifRoom repairAnswer listBytes joined trailerOutcome clash wellFormed leading unitsOf all any keep member distinct disjoint known fitting withinLimits agreeing fresh trailerOf shapeBytes sizeBytes number digits from shapeOf wordsOf
 worked = (refl, refl, refl, refl, refl, refl, refl, refl, refl, refl, refl, refl, refl)

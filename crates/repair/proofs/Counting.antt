@@ -1,4 +1,4 @@
--- Claims counted in two sets: one claim more, the claims of one chunk more, and which chunks are put into the set of chunks.
+-- Claims counted in two sets: none, one claim more, and a list of claims one after the other.
 use Prim.Native.Nat.{ℕ, _+_, _*_, _≤_, _<_}
 use native.Mathlib.Numerals.{add-one}
 use mathlib.Core.Path.{_≡_, sym, ap, _∙_, subst}

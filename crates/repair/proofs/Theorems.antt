@@ -9,7 +9,7 @@ use lib.Seq.{drop-at}
 use lib.Dec.{ltb}
 use borrow.Author.Needs.{zero≤}
 use borrow.Author.Tests.{ltb-true, ltb-false, lt-ltb, le-ltb}
-use Rattle.search.specs.Search.{below, member}
+use Rattle.search.specs.Search.{below, member, joined}
 use Rattle.search.proofs.Members.{member-head, member-tail, no-numbers}
 use Rattle.search.proofs.Mapping.{map-below-ext, map-places}
 use Rattle.search.proofs.Rising.{kept-rising}
@@ -139,7 +139,7 @@ module _ (s : List ℕ) (room n : ℕ) (e : repairAnswer s room ≡ Unlinked n) 
 
 -- the bytes of a list, read
 listBytes-at : (xs ys : List ℕ) (k : ℕ) → ((i : ℕ) → member i xs ≡ true → i < 2 ^ 32) → k < length xs → u32At (listBytes xs ++ ys) (4 * k) ≡ getD xs k 0
-unfolding listBytes
+unfolding listBytes joined
 listBytes-at [] ys k h l = absurd (omega arith)
 listBytes-at (x ∷ xs) ys zero h l =
     ap (λ (zs : List ℕ). u32At zs 0) (append-assoc (digits 4 x) (listBytes xs) ys) ∙ number-here 4 x (listBytes xs ++ ys) (h x (member-head x x xs refl))
@@ -149,7 +149,7 @@ listBytes-at (x ∷ xs) ys (suc k) h l =
     ∙ listBytes-at xs ys k (λ i m. h i (member-tail i x xs m)) (omega arith)
 
 listBytes-nil : (out : List ℕ) → listBytes [] ++ drop 0 out ≡ out
-unfolding listBytes
+unfolding listBytes joined
 listBytes-nil out = refl
 
 module _ (s out : List ℕ) (n : ℕ) (e : repairAnswer s (length out) ≡ Unlinked n) where

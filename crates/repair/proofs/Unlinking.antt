@@ -1,12 +1,13 @@
 -- What unlinking and listing chunks leaves: one chunk more, and the words and bytes that stay.
 use Prim.Native.Nat.{ℕ, _+_, _*_, _≤_, _<_}
 use native.Mathlib.Omega.{arith}
-use mathlib.Core.Path.{_≡_, refl, sym, _∙_}
+use mathlib.Core.Path.{_≡_, sym, _∙_}
 use mathlib.Core.List.{List, [], _∷_, _++_}
-use lib.ListN.{length, drop, length-append}
+use lib.ListN.{length, drop}
 use lib.Seq.{sets}
-use Rattle.search.specs.Search.{firstOr}
+use Rattle.search.specs.Search.{firstOr, joined}
 use Rattle.search.proofs.Members.{no-numbers}
+use Rattle.search.proofs.Joined.{length-joined, length-joined-low}
 use Rattle.search.proofs.Rising.{First, rising-first}
 use Rattle.words.specs.Words.{digits, storeAt}
 use Rattle.words.proofs.Laws.{sets-append, sets-front, length-digits}
@@ -26,7 +27,7 @@ module _ (i : ℕ) (xs ys : List ℕ) (e : xs ≡ i ∷ ys) where
   unlink-next s t w = rw (w, e)
 
   pub list-next : (out after : List ℕ) (k : ℕ) → after ≡ storeAt 4 out (4 * k) i → sets after (4 * (k + 1)) (listBytes ys) ≡ sets out (4 * k) (listBytes xs)
-  unfolding listBytes
+  unfolding listBytes joined
   list-next out after k w =
       let p : 4 * (k + 1) ≡ 4 * k + length (digits 4 i) = omega (arith, length-digits 4 i) in
       rw (e, p, w) (sym (sets-append (digits 4 i) (listBytes ys) out (4 * k)))
@@ -41,15 +42,17 @@ module _ (xs : List ℕ) (k n : ℕ) (c : n ≡ k + length xs) (h : n ≤ k) whe
   unlink-end s = rw none
 
   pub list-end : (out : List ℕ) (at : ℕ) → sets out at (listBytes xs) ≡ out
-  unfolding listBytes
+  unfolding listBytes joined
   list-end out at = rw none
 
 -- ---- the list in a lent buffer
 
 pub length-listBytes : (xs : List ℕ) → length (listBytes xs) ≡ 4 * length xs
 unfolding listBytes
-length-listBytes [] = refl
-length-listBytes (x ∷ xs) = let e = length-append (digits 4 x) (listBytes xs) in omega (arith, length-digits 4 x, length-listBytes xs)
+length-listBytes xs =
+    let high = length-joined (digits 4) 4 xs (λ x. omega (arith, length-digits 4 x)) in
+    let low = length-joined-low (digits 4) 4 xs (λ x m. omega (arith, length-digits 4 x)) in
+    omega arith
 
 pub list-front : (xs out : List ℕ) → 4 * length xs ≤ length out → sets out 0 (listBytes xs) ≡ listBytes xs ++ drop (4 * length xs) out
 list-front xs out h = let e = length-listBytes xs in sets-front out (listBytes xs) (omega arith) ∙ rw e

@@ -4,7 +4,7 @@ use mathlib.Core.Bool.{Bool, not, _&&_, _||_, cond}
 use mathlib.Core.List.{List, [], _∷_, _++_}
 use lib.ListN.{length, drop}
 use lib.Dec.{eqb, ltb}
-use Rattle.search.specs.Search.{below, any, keep, distinct}
+use Rattle.search.specs.Search.{below, any, keep, distinct, joined}
 use Rattle.words.specs.Words.{digits}
 use Rattle.layout.specs.declared.Refusal.the-variants.{Small}
 use Rattle.layout.specs.declared.Trailer.{Trailer}
@@ -58,8 +58,7 @@ abbrev pub numberBytes : ℕ
 numberBytes = 4
 
 unfoldable pub listBytes : List ℕ → List ℕ
-listBytes [] = []
-listBytes (i ∷ is) = digits numberBytes i ++ listBytes is
+listBytes is = joined (digits numberBytes) is
 
 -- the list in a lent buffer: "an answer changes nothing past what it writes"
 abbrev pub listing : List ℕ → List ℕ → List ℕ
