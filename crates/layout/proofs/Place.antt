@@ -2,58 +2,73 @@
 use Prim.Native.Nat.{ℕ, _+_, _-_, _*_, _/_, _%_, _≤_, _<_}
 use mathlib.Core.Path.{_≡_, sym, ap, _∙_, subst}
 use mathlib.Core.Logic.{_≢_}
-use mathlib.Core.Bool.{_&&_}
+use mathlib.Core.Bool.{Bool, _&&_, _||_, cond}
 use mathlib.Core.List.{List}
 use native.Mathlib.Omega.{arith}
 use lib.ListN.{length, getD, drop}
-use lib.Dec.{eqb}
+use lib.Dec.{eqb, leb}
 use lib.Arith.{digits-lt, digits-div, digits-mod}
 use Rattle.words.specs.Words.{number, digits}
 use Rattle.words.proofs.Laws.{length-digits, length-store, number-ext}
 use Rattle.words.proofs.Store.{Outside, getD-sets-outside, number-store-apart, number-store-same, drop-store}
 use Rattle.layout.specs.declared.Shape.{Shape}
-use Rattle.layout.specs.Layout.{X, agreeing, mapBytes, trailerBytes, trailerStart, trailerAt, withinLimits, imageBytes, mapWords, shapeOf, known, fitting, wordAt, putWord, mapWordPlace}
-use Rattle.layout.proofs.Limits.{fitting-limits, fitting-length}
+use Rattle.layout.specs.Layout.{X, firstEdition, lastEdition, maxWords, taggedAt, knownAs, editionOf, agreeing, spareZero, mapBytes, trailerBytes, trailerStart, trailerAt, withinLimits, imageBytes, mapWords, shapeOf, known, fitting, wordAt, putWord, mapWordPlace}
+use Rattle.layout.proofs.Limits.{edition-some, maps-high, known-as, shape-edition, fitting-limits, fitting-length}
 use Rattle.layout.specs.Shaped.{Limits, On, wordCount}
 
 -- ---- two images with one trailer
 
 record Alike (s t : List ℕ) : Type 0 where
   size : length t ≡ length s
-  tail : (i : ℕ) → trailerAt s ≤ i → getD t i 0 ≡ getD s i 0
+  tail : (i : ℕ) → trailerAt (editionOf s) s ≤ i → getD t i 0 ≡ getD s i 0
 
 module _ (s t : List ℕ) (a : Alike s t) where
-  at-start : trailerAt t ≡ trailerAt s
-  at-start = ap (λ (n : ℕ). n - trailerBytes) (a .size)
+  -- read as an edition whose trailer is no longer
+  module _ (e : ℕ) (h : e ≤ editionOf s) where
+    at-start : trailerAt e t ≡ trailerAt e s
+    at-start = ap (λ (n : ℕ). n - trailerBytes e) (a .size)
 
-  same-field : (w k : ℕ) → number w t (trailerAt t + k) ≡ number w s (trailerAt s + k)
-  same-field w k =
-      ap (λ (n : ℕ). number w t (n + k)) at-start ∙ number-ext w t s (trailerAt s + k) (trailerAt s + k) (λ i p. a .tail (trailerAt s + k + i) (omega arith))
+    same-field : (w k : ℕ) → number w t (trailerAt e t + k) ≡ number w s (trailerAt e s + k)
+    same-field w k =
+        ap (λ (n : ℕ). number w t (n + k)) at-start
+        ∙ number-ext w t s (trailerAt e s + k) (trailerAt e s + k) (λ i p. a .tail (trailerAt e s + k + i) (omega arith))
 
-  same-byte : (k : ℕ) → getD t (trailerAt t + k) 0 ≡ getD s (trailerAt s + k) 0
-  same-byte k = ap (λ (n : ℕ). getD t (n + k) 0) at-start ∙ a .tail (trailerAt s + k) (omega arith)
+    same-byte : (k : ℕ) → getD t (trailerAt e t + k) 0 ≡ getD s (trailerAt e s + k) 0
+    same-byte k = ap (λ (n : ℕ). getD t (n + k) 0) at-start ∙ a .tail (trailerAt e s + k) (omega arith)
+
+    alike-as : knownAs e t ≡ knownAs e s
+    unfolding knownAs taggedAt
+    alike-as =
+        let first : getD t (trailerAt e t) 0 ≡ getD s (trailerAt e s) 0 =
+        ap (λ (n : ℕ). getD t n 0) at-start ∙ a .tail (trailerAt e s) (omega arith) in
+        λ i.
+        leb (trailerBytes e) (a .size i)
+        && (eqb (first i) 0x52 && eqb (same-byte 1 i) 0x4D && eqb (same-byte 2 i) 0x41 && eqb (same-byte 3 i) 0x50 && eqb (same-field 2 4 i) e)
+
+  alike-edition : editionOf t ≡ editionOf s
+  unfolding editionOf
+  alike-edition = ap (λ (b : Bool). cond b firstEdition lastEdition) (alike-as firstEdition (edition-some s))
+
+  field : (w k : ℕ) → number w t (trailerAt (editionOf t) t + k) ≡ number w s (trailerAt (editionOf s) s + k)
+  field w k = ap (λ (e : ℕ). number w t (trailerAt e t + k)) alike-edition ∙ same-field (editionOf s) (omega arith) w k
+
+  alike-known : known t ≡ known s
+  alike-known = known-as t ∙ ap (λ (e : ℕ). knownAs e t) alike-edition ∙ alike-as (editionOf s) (omega arith) ∙ sym (known-as s)
 
   alike-shape : shapeOf t ≡ shapeOf s
   unfolding shapeOf
   alike-shape =
-      λ i. record { p = same-field 2 6 i; c = same-field 4 8 i; m = same-field 4 12 i; n = same-field 4 16 i }
-
-  alike-known : known t ≡ known s
-  unfolding known
-  alike-known =
-      let first : getD t (trailerAt t) 0 ≡ getD s (trailerAt s) 0 =
-      ap (λ (n : ℕ). getD t n 0) at-start ∙ a .tail (trailerAt s) (omega arith) in
-      λ i.
-      eqb (first i) 0x52 && eqb (same-byte 1 i) 0x4D && eqb (same-byte 2 i) 0x41 && eqb (same-byte 3 i) 0x50 && eqb (same-field 2 4 i) 1
+      λ i. record { edition = alike-edition i; p = field 2 6 i; c = field 4 8 i; m = field 4 12 i; n = field 4 16 i }
 
   alike-fitting : fitting t ≡ fitting s
-  unfolding fitting agreeing
+  unfolding fitting agreeing spareZero shapeOf
   alike-fitting =
       λ i.
       let g : Shape = alike-shape i in
       withinLimits g
-      && (eqb (same-field 4 20 i) (trailerStart g) && eqb (same-field 4 24 i) (mapBytes g) && eqb (same-field 4 28 i) (imageBytes g)
+      && (eqb (field 4 20 i) (trailerStart g) && eqb (field 4 24 i) (mapBytes g) && eqb (field 4 28 i) (imageBytes g)
       && eqb (a .size i) (imageBytes g))
+      && (eqb (g .edition) firstEdition || (eqb (field 4 32 i) 0 && eqb (field 4 36 i) 0))
 
 -- ---- a word is stored
 
@@ -71,13 +86,16 @@ module _ (g : Shape) (s : List ℕ) (o : On g s) where
   on-length : length s ≡ imageBytes g
   on-length = fitting-length s (o .fitting) ∙ ap imageBytes (o .shape)
 
+  on-edition : editionOf s ≡ g .edition
+  on-edition = sym (shape-edition s) ∙ ap (λ (h : Shape). h .edition) (o .shape)
+
   pub wordAt-same : (i v : ℕ) → i < wordCount g → v ≤ X → wordAt (putWord s i v) i ≡ v
   wordAt-same i v h b = number-store-same 8 s (8 * i) v (omega (arith, on-length)) (omega arith)
 
   put-alike : (i v : ℕ) → i < wordCount g → Alike s (putWord s i v)
   put-alike i v h = record {
     size = length-store 8 s (8 * i) v;
-    tail = λ k p. getD-sets-outside (digits 8 v) s (8 * i) k (λ a b. omega (arith, on-length, length-digits 8 v));
+    tail = λ k p. getD-sets-outside (digits 8 v) s (8 * i) k (λ a b. omega (arith, on-length, on-edition, length-digits 8 v));
   }
 
   pub on-put : (i v : ℕ) → i < wordCount g → On g (putWord s i v)
@@ -93,6 +111,11 @@ module _ (g : Shape) (s : List ℕ) (o : On g s) where
 -- a place of a map lies among the words, past the links, and tells its map and its word
 pub place-in : (g : Shape) (k j : ℕ) → k < g .m → j < mapWords g → mapWordPlace g k j < wordCount g
 place-in g k j p q = omega (arith, digits-lt p q)
+
+-- the same, as the code computes it with w words in a map
+pub place-of : (g : Shape) (k w j : ℕ) → Limits g → w ≡ mapWords g → k < g .m → j < mapWords g
+    → (k * w ≡ k * mapWords g) × (mapWordPlace g k j < wordCount g) × (wordCount g ≤ maxWords)
+place-of g k w j l e p q = (ap (λ (n : ℕ). k * n) e, place-in g k j p q, omega (arith, l .c-high, maps-high g l))
 
 pub place-past : (g : Shape) (k j i : ℕ) → i < g .c → i ≢ mapWordPlace g k j
 place-past g k j i h e = omega arith

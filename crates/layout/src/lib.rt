@@ -1,5 +1,6 @@
 // The layout of a volume image: its shape and limits, the trailer, format, and the refusals.
 pub mod format;
+pub mod geometry;
 pub mod refusals;
 pub mod trailers;
 
@@ -27,12 +28,24 @@ pub const MAX_UNITS: u32 = MAX_CHUNK_UNITS * MAX_MAPS;
 // No map, no unit: document 01's X.
 pub const ABSENT: u64 = 18446744073709551615;
 
-// The trailer: its bytes, the four that it begins with, and its version.
+// The editions: a version each. Edition 2 has one more word in a map and eight more bytes in the trailer.
+pub const FIRST_EDITION: u32 = 1;
+
+pub const LAST_EDITION: u32 = 2;
+
+// The trailer: its bytes in edition 1, those that a later one adds, and the four that it begins with.
 pub const TRAILER_BYTES: usize = 32;
+
+pub const SPARE_BYTES: usize = 8;
 
 pub const TAG: [u8; 4] = *b"RMAP";
 
-pub const VERSION: u16 = 1;
+// The words of a map at the most, and the bytes of an image.
+pub const MAX_MAP_WORDS: u32 = LAST_EDITION - FIRST_EDITION + MAX_CHUNK_UNITS;
+
+pub const MAX_IMAGE_BYTES: usize = 8 * (MAX_CHUNKS + MAX_MAPS * MAX_MAP_WORDS) as usize
+    + TRAILER_BYTES
+    + SPARE_BYTES;
 
 // Where its fields stand, from its first byte on: the distances lead back to the logical map and to the chunk maps.
 pub(crate) const VERSION_AT: usize = 4;
@@ -52,6 +65,10 @@ pub(crate) const LINKS_BACK_AT: usize = 20;
 pub(crate) const MAPS_BACK_AT: usize = 24;
 
 pub(crate) const LENGTH_AT: usize = 28;
+
+pub(crate) const SPARE_AT: usize = 32;
+
+pub(crate) const LAST_SPARE_AT: usize = 36;
 
 // Why a call refuses: the rows of document 01's table, with the place that each gives.
 pub enum Refusal {
@@ -81,8 +98,9 @@ pub enum Trailer {
     Refused(Refusal),
 }
 
-// The shape of a volume, document 01's P, C, M and N: units in a chunk, chunks, chunk maps, backing units.
+// The shape of a volume: its edition, and document 01's P, C, M and N: units in a chunk, chunks, chunk maps, backing units.
 pub struct Shape {
+    pub edition: u32,
     pub p: u32,
     pub c: u32,
     pub m: u32,

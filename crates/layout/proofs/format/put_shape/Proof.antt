@@ -1,8 +1,8 @@
 -- `layout::format::put_shape` meets its contract: its stores one after another are the trailer's first 20 bytes, by `shape-run`.
-use denote.Ref.{now}
-use native.Mathlib.Omega.{arith}
-use Rattle.layout.proofs.Limits.{limits}
 use Rattle.layout.proofs.Formatting.{shape-run}
+use Rattle.layout.proofs.Limits.{limits}
+use native.Mathlib.Omega.{arith}
+use denote.Ref.{now}
 use borrow.Author.Needs.{needs}
 use Rattle.layout.proofs.format.put_shape.Statement.{statement}
 use Rattle.layout.proofs.format.put_shape.Tie as tie
@@ -13,14 +13,19 @@ put-tag-requires c κs = search needs
 add-put-u16 : tie.Need-add-put-u16
 add-put-u16 c = search needs
 
+cast-put-u16 : tie.Need-cast-put-u16
+cast-put-u16 c = let g = c .before .before .before .before .before .before .args .g in
+    omega (arith, limits g (c .before .before .before .before .before .before .pre .1))
+
 put-u16-requires : tie.Need-put-u16-requires
 put-u16-requires c κs = search needs
 
 add-put-u16-2 : tie.Need-add-put-u16-2
 add-put-u16-2 c = search needs
 
-cast-put-u16 : tie.Need-cast-put-u16
-cast-put-u16 c = omega (arith, limits (c .before .before .before .before .before .before .before .before .before .before .args .g) (c .before .before .before .before .before .before .before .before .before .before .pre .1))
+cast-put-u16-2 : tie.Need-cast-put-u16-2
+cast-put-u16-2 c = let g = c .before .before .before .before .before .before .before .before .before .before .args .g in
+    omega (arith, limits g (c .before .before .before .before .before .before .before .before .before .before .pre .1) .p-high)
 
 put-u16-requires-2 : tie.Need-put-u16-requires-2
 put-u16-requires-2 c κs = search needs
@@ -48,7 +53,8 @@ same-length c = search needs
 
 returns : tie.Need-returns
 returns c =
-    let a = c .before .before .before .before .before .before .before .before .before .before .before .before .before .before .before .before .before .before .before .before .before .before .before .before .before .args in
+    let named = c .before .before .before .before .before .before .before .before .before .before .before .before in
+    let a = named .before .before .before .before .before .before .before .before .before .before .before .before .before .args in
     cc (shape-run (now (a .image)) (a .t) (a .g))
 
 pub put-shape-spec : {M : Type 1} → statement M
@@ -57,9 +63,10 @@ put-shape-spec =
     (tie.spec
     put-tag-requires
     add-put-u16
+    cast-put-u16
     put-u16-requires
     add-put-u16-2
-    cast-put-u16
+    cast-put-u16-2
     put-u16-requires-2
     add-put-u32
     put-u32-requires

@@ -1,6 +1,6 @@
--- `layout::format::put_sizes` meets its contract: its stores one after another are the trailer's last 12 bytes, by `size-run`.
-use Rattle.layout.proofs.Formatting.{size-run}
+-- `layout::format::put_sizes` meets its contract: its stores one after another are the trailer's distances and length, by `size-run`.
 use denote.Ref.{now}
+use Rattle.layout.proofs.Formatting.{size-run}
 use borrow.Author.Needs.{needs}
 use Rattle.layout.proofs.format.put_sizes.Statement.{statement}
 use Rattle.layout.proofs.format.put_sizes.Tie as tie
@@ -23,11 +23,8 @@ put-u32-requires-2 c κs = search needs
 add-put-u32-2 : tie.Need-add-put-u32-2
 add-put-u32-2 c = search needs
 
-cast-put-u32 : tie.Need-cast-put-u32
-cast-put-u32 c = search needs
-
-add-put-u32-3 : tie.Need-add-put-u32-3
-add-put-u32-3 c = search needs
+image-bytes-requires : tie.Need-image-bytes-requires
+image-bytes-requires c κs = search needs
 
 put-u32-requires-3 : tie.Need-put-u32-requires-3
 put-u32-requires-3 c κs = search needs
@@ -36,7 +33,9 @@ same-length : tie.Need-same-length
 same-length c = search needs
 
 returns : tie.Need-returns
-returns c = cc (size-run (now (c .before .before .before .before .before .before .before .before .before .before .before .before .before .before .before .args .image)) (c .before .before .before .before .before .before .before .before .before .before .before .before .before .before .before .args .at) (c .before .before .before .before .before .before .before .before .before .before .before .before .before .before .before .args .g))
+returns c =
+    let a = c .before .before .before .before .before .before .before .before .before .before .before .before .before .before .before .before .args in
+    cc (size-run (now (a .image)) (a .at) (a .g))
 
 pub put-sizes-spec : {M : Type 1} → statement M
 put-sizes-spec =
@@ -48,8 +47,7 @@ put-sizes-spec =
     add-put-u32
     put-u32-requires-2
     add-put-u32-2
-    cast-put-u32
-    add-put-u32-3
+    image-bytes-requires
     put-u32-requires-3
     same-length
     returns)

@@ -1,9 +1,13 @@
 -- `layout::trailers::agrees` meets its contract: at each return the numbers read and the tests on them settle the definition.
 use Rattle.layout.specs.Layout.{agreeing}
+use Rattle.layout.proofs.Limits.{limits}
 use borrow.Author.Tests.{eq-eqb, ne-eqb}
 use borrow.Author.Needs.{needs}
 use Rattle.layout.proofs.trailers.agrees.Statement.{statement}
 use Rattle.layout.proofs.trailers.agrees.Tie as tie
+
+trailer-bytes-requires : tie.Need-trailer-bytes-requires
+trailer-bytes-requires c κs = let l = limits (c .before .args .g) (c .before .pre .1) in (l .edition-low, l .edition-high)
 
 sub-t : tie.Need-sub-t
 sub-t c = search needs
@@ -22,7 +26,10 @@ get-u32-requires c κs = search needs
 
 returns : tie.Need-returns
 unfolding agreeing
-returns c = rw (← c .before .get-u32 .ensures, ← c .before .before .trailer-start .ensures .0, ne-eqb _ _ (c .if1 .taken))
+returns c =
+    let size = c .before .before .before .before .trailer-bytes .ensures .0 in
+    let start = c .before .before .trailer-start .ensures .0 in
+    rw (← size, ← c .before .get-u32 .ensures, ← start, ne-eqb _ _ (c .if1 .taken))
 
 add-get-u32-2 : tie.Need-add-get-u32-2
 add-get-u32-2 c = search needs
@@ -32,13 +39,19 @@ get-u32-requires-2 c κs = search needs
 
 returns-2 : tie.Need-returns-2
 unfolding agreeing
-returns-2 c = rw (← c .before .before .before .get-u32 .ensures, ← c .before .get-u322 .ensures, ← c .before .before .before .before .trailer-start .ensures .0, ← c .before .before .before .before .before .map-bytes .ensures .0, eq-eqb _ _ (c .before .before .if1 .left), ne-eqb _ _ (c .if2 .taken))
+returns-2 c =
+    let size = c .before .before .before .before .before .before .trailer-bytes .ensures .0 in
+    let start = c .before .before .before .before .trailer-start .ensures .0 in
+    let maps = c .before .before .before .before .before .map-bytes .ensures .0 in
+    let first = eq-eqb _ _ (c .before .before .if1 .left) in
+    let read = c .before .before .before .get-u32 .ensures in
+    rw (← size, ← read, ← c .before .get-u322 .ensures, ← start, ← maps, first, ne-eqb _ _ (c .if2 .taken))
+
+image-bytes-requires : tie.Need-image-bytes-requires
+image-bytes-requires c κs = search needs
 
 cast-total : tie.Need-cast-total
 cast-total c = search needs
-
-add-total : tie.Need-add-total
-add-total c = search needs
 
 add-get-u32-3 : tie.Need-add-get-u32-3
 add-get-u32-3 c = search needs
@@ -51,16 +64,37 @@ cast-if3 c = search needs
 
 returns-3 : tie.Need-returns-3
 unfolding agreeing
-returns-3 c = rw (← c .before .before .before .before .before .get-u32 .ensures, ← c .before .before .before .get-u322 .ensures, ← c .before .get-u323 .ensures, ← c .before .before .before .before .before .before .trailer-start .ensures .0, ← c .before .before .before .before .before .before .before .map-bytes .ensures .0, eq-eqb _ _ (c .before .before .before .before .if1 .left), eq-eqb _ _ (c .before .before .if2 .left), ne-eqb _ _ (c .if3 .taken))
+returns-3 c =
+    let second = c .before .before .before .before in
+    let read = second .before .before in
+    let total = c .before .before .image-bytes .ensures .0 in
+    let size = read .before .before .before .trailer-bytes .ensures .0 in
+    let start = read .before .trailer-start .ensures .0 in
+    let maps = read .before .before .map-bytes .ensures .0 in
+    let first = eq-eqb _ _ (second .before .if1 .left) in
+    let next = eq-eqb _ _ (c .before .before .before .if2 .left) in
+    let last = ne-eqb _ _ (c .if3 .taken) in
+    rw (← total, ← size, ← read .get-u32 .ensures, ← second .get-u322 .ensures, ← c .before .get-u323 .ensures, ← start, ← maps, first, next, last)
 
 returns-4 : tie.Need-returns-4
 unfolding agreeing
-returns-4 c = rw (← c .before .before .before .before .before .get-u32 .ensures, ← c .before .before .before .get-u322 .ensures, ← c .before .get-u323 .ensures, ← c .before .before .before .before .before .before .trailer-start .ensures .0, ← c .before .before .before .before .before .before .before .map-bytes .ensures .0, eq-eqb _ _ (c .before .before .before .before .if1 .left), eq-eqb _ _ (c .before .before .if2 .left), eq-eqb _ _ (c .if3 .left))
+returns-4 c =
+    let second = c .before .before .before .before in
+    let read = second .before .before in
+    let total = c .before .before .image-bytes .ensures .0 in
+    let size = read .before .before .before .trailer-bytes .ensures .0 in
+    let start = read .before .trailer-start .ensures .0 in
+    let maps = read .before .before .map-bytes .ensures .0 in
+    let first = eq-eqb _ _ (second .before .if1 .left) in
+    let next = eq-eqb _ _ (c .before .before .before .if2 .left) in
+    let last = eq-eqb _ _ (c .if3 .left) in
+    rw (← total, ← size, ← read .get-u32 .ensures, ← second .get-u322 .ensures, ← c .before .get-u323 .ensures, ← start, ← maps, first, next, last)
 
 pub agrees-spec : {M : Type 1} → statement M
 agrees-spec =
     tie.close
     (tie.spec
+    trailer-bytes-requires
     sub-t
     map-bytes-requires
     trailer-start-requires
@@ -70,8 +104,8 @@ agrees-spec =
     add-get-u32-2
     get-u32-requires-2
     returns-2
+    image-bytes-requires
     cast-total
-    add-total
     add-get-u32-3
     get-u32-requires-3
     cast-if3

@@ -1,92 +1,27 @@
 -- `layout::trailers::is_known` meets its contract: the tests are the definition's, in its order.
-use Rattle.layout.proofs.Limits.{tests}
-use Rattle.layout.specs.Layout.{known}
+use Rattle.layout.specs.Layout.{knownAs}
+use borrow.Author.Tests.{lt-leb, le-leb}
 use borrow.Author.Needs.{needs}
 use Rattle.layout.proofs.trailers.is_known.Statement.{statement}
 use Rattle.layout.proofs.trailers.is_known.Tie as tie
 
-sub-t : tie.Need-sub-t
-sub-t c = search needs
-
-shared-slice-read-if1 : tie.Need-shared-slice-read-if1
-shared-slice-read-if1 c = search needs
-
-array-read-if1 : tie.Need-array-read-if1
-array-read-if1 c = search needs
+trailer-bytes-requires : tie.Need-trailer-bytes-requires
+trailer-bytes-requires c κs = search needs
 
 returns : tie.Need-returns
-unfolding known
-returns c = search tests
+unfolding knownAs
+returns c = rw (← c .before .trailer-bytes .ensures .0, lt-leb _ _ (c .if1 .taken))
 
-add-if2 : tie.Need-add-if2
-add-if2 c = search needs
+sub-is-tagged : tie.Need-sub-is-tagged
+sub-is-tagged c = search needs
 
-shared-slice-read-if2 : tie.Need-shared-slice-read-if2
-shared-slice-read-if2 c = search needs
-
-array-read-if2 : tie.Need-array-read-if2
-array-read-if2 c = search needs
+is-tagged-requires : tie.Need-is-tagged-requires
+is-tagged-requires c κs = search needs
 
 returns-2 : tie.Need-returns-2
-unfolding known
-returns-2 c = search tests
-
-add-if3 : tie.Need-add-if3
-add-if3 c = search needs
-
-shared-slice-read-if3 : tie.Need-shared-slice-read-if3
-shared-slice-read-if3 c = search needs
-
-array-read-if3 : tie.Need-array-read-if3
-array-read-if3 c = search needs
-
-returns-3 : tie.Need-returns-3
-unfolding known
-returns-3 c = search tests
-
-add-if4 : tie.Need-add-if4
-add-if4 c = search needs
-
-shared-slice-read-if4 : tie.Need-shared-slice-read-if4
-shared-slice-read-if4 c = search needs
-
-array-read-if4 : tie.Need-array-read-if4
-array-read-if4 c = search needs
-
-returns-4 : tie.Need-returns-4
-unfolding known
-returns-4 c = search tests
-
-add-get-u16 : tie.Need-add-get-u16
-add-get-u16 c = search needs
-
-get-u16-requires : tie.Need-get-u16-requires
-get-u16-requires c κs = search needs
-
-returns-5 : tie.Need-returns-5
-unfolding known
-returns-5 c = rw (c .get-u16 .ensures) (search tests)
+unfolding knownAs
+returns-2 c = rw (← c .before .before .trailer-bytes .ensures .0, le-leb _ _ (c .before .if1 .left)) (c .is-tagged .ensures)
 
 pub is-known-spec : {M : Type 1} → statement M
 is-known-spec =
-    tie.close
-    (tie.spec
-    sub-t
-    shared-slice-read-if1
-    array-read-if1
-    returns
-    add-if2
-    shared-slice-read-if2
-    array-read-if2
-    returns-2
-    add-if3
-    shared-slice-read-if3
-    array-read-if3
-    returns-3
-    add-if4
-    shared-slice-read-if4
-    array-read-if4
-    returns-4
-    add-get-u16
-    get-u16-requires
-    returns-5)
+    tie.close (tie.spec trailer-bytes-requires returns sub-is-tagged is-tagged-requires returns-2)

@@ -1,8 +1,8 @@
 -- `layout::trailers::within_limits` meets its contract: the tests are the definition's, in its order.
-use Rattle.layout.specs.Layout.{withinLimits}
-use borrow.Author.Needs.{needs}
-use native.Mathlib.Omega.{arith}
 use Rattle.layout.proofs.Limits.{tests, product-high}
+use Rattle.layout.specs.Layout.{withinLimits}
+use native.Mathlib.Omega.{arith}
+use borrow.Author.Needs.{needs}
 use Rattle.layout.proofs.trailers.within_limits.Statement.{statement}
 use Rattle.layout.proofs.trailers.within_limits.Tie as tie
 
@@ -22,32 +22,39 @@ returns-4 : tie.Need-returns-4
 unfolding withinLimits
 returns-4 c = search tests
 
-add-if5 : tie.Need-add-if5
-add-if5 c = search needs
-
 returns-5 : tie.Need-returns-5
 unfolding withinLimits
 returns-5 c = search tests
-
-add-if6 : tie.Need-add-if6
-add-if6 c = search needs
 
 returns-6 : tie.Need-returns-6
 unfolding withinLimits
 returns-6 c = search tests
 
+add-if7 : tie.Need-add-if7
+add-if7 c = search needs
+
 returns-7 : tie.Need-returns-7
 unfolding withinLimits
 returns-7 c = search tests
 
-mul-result : tie.Need-mul-result
-mul-result c =
-    let g = c .before .before .before .before .before .before .before .args .g in
-    omega (arith, product-high (g .p) (g .m) (omega arith) (omega arith))
+add-if8 : tie.Need-add-if8
+add-if8 c = search needs
 
 returns-8 : tie.Need-returns-8
 unfolding withinLimits
 returns-8 c = search tests
+
+returns-9 : tie.Need-returns-9
+unfolding withinLimits
+returns-9 c = search tests
+
+mul-result : tie.Need-mul-result
+mul-result c = let g = c .before .before .before .before .before .before .before .before .before .args .g in
+    omega (arith, product-high (g .p) (g .m) (omega arith) (omega arith))
+
+returns-10 : tie.Need-returns-10
+unfolding withinLimits
+returns-10 c = search tests
 
 pub within-limits-spec : {M : Type 1} → statement M
 within-limits-spec =
@@ -57,10 +64,12 @@ within-limits-spec =
     returns-2
     returns-3
     returns-4
-    add-if5
     returns-5
-    add-if6
     returns-6
+    add-if7
     returns-7
+    add-if8
+    returns-8
+    returns-9
     mul-result
-    returns-8)
+    returns-10)
