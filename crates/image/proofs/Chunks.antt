@@ -3,25 +3,26 @@ use Prim.Native.Nat.{ℕ, _+_, _≤_, _<_}
 use native.Mathlib.Omega.{arith}
 use mathlib.Core.Path.{_≡_, sym, ap, _∙_}
 use mathlib.Core.Logic.{⊎-elim}
-use mathlib.Core.Bool.{true, false, not, _&&_}
+use mathlib.Core.Bool.{true, false, not, _&&_, _||_}
 use mathlib.Core.List.{List, []}
-use lib.ListN.{length, getD, drop, length-map}
+use lib.ListN.{length, getD, drop, length-map, length-drop}
+use lib.Seq.{getD-drop, length-take-le}
 use lib.Dec.{eqb, ltb}
 use borrow.Author.Tests.{ltb-true, ltb-false, eqb-true, eqb-false, eq-eqb, ne-eqb, not-true, not-false}
 use Rattle.search.specs.Search.{below, all, member, disjoint}
-use Rattle.search.proofs.Bools.{contradict, and-intro, and-false-other, either, is-false, is-true, or-false-left, or-false-right}
+use Rattle.search.proofs.Bools.{contradict, and-left, and-right, and-intro, and-false-other, either, is-false, is-true, or-cases, or-left, or-right, or-false-left, or-false-right}
 use Rattle.search.proofs.Members.{all-at, member-nil}
 use Rattle.search.proofs.Ranges.{length-from}
 use Rattle.search.proofs.Distinct.{disjoint-at, disjoint-intro}
 use Rattle.search.proofs.Mapping.{getD-map-from}
 use Rattle.layout.specs.declared.Shape.{Shape}
-use Rattle.layout.specs.Layout.{X, isUnit, unitWords, shapeOf, linkOf, wordsOf, mapWords, wordAt, mapWordPlace}
-use Rattle.layout.specs.Shaped.{mapOf}
-use Rattle.layout.proofs.Limits.{unit-below}
-use Rattle.image.specs.Soundness.{mapped, unitsOf, leading, Named}
-use Rattle.image.specs.Verdicts.{wellFormed, goodLink, goodMap, clash}
+use Rattle.layout.specs.Layout.{X, unitsFor, isUnit, head, unitWords, shapeOf, linkOf, wordsOf, mapWords, wordAt, mapWordPlace}
+use Rattle.layout.specs.Shaped.{Shaped, mapOf, unitWordsOf}
+use Rattle.layout.proofs.Limits.{unit-below, map-words}
+use Rattle.image.specs.Soundness.{mapped, unitsOf, leading, Named, MapForm}
+use Rattle.image.specs.Verdicts.{wellFormed, sizeFits, goodForm, goodLink, goodMap, clash}
 use Rattle.image.specs.Claims.{Tested, heldIn}
-use Rattle.image.proofs.Leading.{length-leading, leading-all, form-none, form-some, form-of}
+use Rattle.image.proofs.Leading.{length-leading, leading-all, form-none, form-some, form-of, form-leading, well-formed}
 
 -- ---- the words of a map
 
@@ -34,6 +35,55 @@ unfolding wordsOf
 getD-wordsOf g s k j h =
     let e : 0 + j ≡ j = omega arith in
     getD-map-from (λ a. wordAt s (mapWordPlace g k a)) 0 (mapWords g) j 0 h ∙ ap (λ (a : ℕ). wordAt s (mapWordPlace g k a)) e
+
+-- P of them name units
+pub length-unitWords : (g : Shape) (s : List ℕ) (k : ℕ) → length (unitWords g (wordsOf g s k)) ≡ g .p
+length-unitWords g s k = length-drop (head g) (wordsOf g s k) ∙ (let a = length-wordsOf g s k in let b = map-words g in omega arith)
+
+pub getD-unitWords : (g : Shape) (s : List ℕ) (k j : ℕ) → j < g .p → getD (unitWords g (wordsOf g s k)) j 0 ≡ wordAt s (mapWordPlace g k (head g + j))
+getD-unitWords g s k j h = getD-drop (head g) (wordsOf g s k) j 0 ∙ getD-wordsOf g s k (head g + j) (omega (arith, map-words g))
+
+-- ---- the form of a map
+
+-- where the test finds a word before the units
+pub has-head : (g : Shape) → eqb (head g) 0 ≡ false → 1 ≤ head g
+has-head g e = let n = eqb-false (head g) 0 e in omega (arith, n)
+
+module _ (g : Shape) (ws : List ℕ) where
+  abbrev held : ℕ
+  held = length (leading (isUnit g) (unitWords g ws))
+
+  pub form-empty : held ≡ 0 → goodForm g ws ≡ false
+  unfolding goodForm
+  form-empty e = rw (form-none (isUnit g) (unitWords g ws) e)
+
+  pub form-held : (held ≡ 0 → ⊥) → goodForm g ws ≡ (all (eqb X) (drop held (unitWords g ws)) && sizeFits g held ws)
+  unfolding goodForm
+  form-held e = rw (form-some (isUnit g) (unitWords g ws) e)
+
+  pub map-form : goodForm g ws ≡ true → MapForm g held ws
+  unfolding goodForm sizeFits
+  map-form e =
+      let a = wellFormed (isUnit g) (unitWords g ws) in
+      let b = eqb (head g) 0 in
+      let d = eqb (unitsFor (getD ws 0 0)) held in
+      record {
+        units = form-of (isUnit g) (unitWords g ws) (and-left a (b || d) e);
+        size = λ h. ⊎-elim (λ q. let z = eqb-true (head g) 0 q in absurd (omega arith)) (λ q. eqb-true (unitsFor (getD ws 0 0)) held q)
+            (or-cases b d (and-right a (b || d) e));
+      }
+
+  pub form-good : (k : ℕ) → isUnit g X ≡ false → MapForm g k ws → goodForm g ws ≡ true
+  unfolding goodForm sizeFits
+  form-good k x f =
+      let q : held ≡ k =
+      ap length (form-leading (isUnit g) k (unitWords g ws) x (f .units)) ∙ length-take-le k (unitWords g ws) (f .units .high) in
+      and-intro (wellFormed (isUnit g) (unitWords g ws)) (eqb (head g) 0 || eqb (unitsFor (getD ws 0 0)) held)
+      (well-formed (isUnit g) k (unitWords g ws) x (f .units))
+      (⊎-elim (λ z. or-left (eqb (head g) 0) (eqb (unitsFor (getD ws 0 0)) held) z)
+      (λ z. or-right (eqb (head g) 0) (eqb (unitsFor (getD ws 0 0)) held)
+      (eq-eqb (unitsFor (getD ws 0 0)) held (f .size (has-head g z) ∙ sym q)))
+      (either (eqb (head g) 0)))
 
 -- ---- chunk i names no map
 
@@ -60,7 +110,7 @@ module _ (s : List ℕ) (i : ℕ) (e : Named s i) where
   pub named-link : goodLink s i ≡ ltb (linkOf s i) (shapeOf s .m)
   named-link = rw (ne-eqb (linkOf s i) X e)
 
-  pub named-map : goodMap s i ≡ wellFormed (isUnit (shapeOf s)) (unitWords (shapeOf s) (mapOf s (linkOf s i)))
+  pub named-map : goodMap s i ≡ goodForm (shapeOf s) (mapOf s (linkOf s i))
   named-map = rw (ne-eqb (linkOf s i) X e)
 
   pub named-below : goodLink s i ≡ true → linkOf s i < shapeOf s .m
@@ -69,6 +119,10 @@ module _ (s : List ℕ) (i : ℕ) (e : Named s i) where
   pub units-named : unitsOf s i ≡ heldIn s (linkOf s i)
   unfolding unitsOf
   units-named = rw (ne-eqb (linkOf s i) X e)
+
+-- the map that chunk i names, where the code has its entry w
+pub map-named : (s : List ℕ) (g : Shape) (i w : ℕ) → Shaped s g → w ≡ linkOf s i → (w ≡ X → ⊥) → goodLink s i ≡ true → w < g .m
+map-named s g i w h e n b = let m = ap (λ (q : Shape). q .m) (h .same) in omega (arith, e, named-below s i (λ x. n (e ∙ x)) b)
 
 -- the test and the statement
 pub mapped-named : (s : List ℕ) (i : ℕ) → mapped s i ≡ true → Named s i
@@ -81,12 +135,10 @@ unmapped-absent s i e = eqb-true (linkOf s i) X (not-false (eqb (linkOf s i) X) 
 module _ (s : List ℕ) (i k h : ℕ) (l : k ≡ linkOf s i) (x : k ≡ X → ⊥) (e : h ≡ length (heldIn s k)) where
   pub bad-form : h ≡ 0 → goodMap s i ≡ false
   bad-form z =
-      named-map s i (λ w. x (l ∙ w)) ∙ rw (← l) (form-none (isUnit (shapeOf s)) (unitWords (shapeOf s) (mapOf s k)) (sym e ∙ z))
+      named-map s i (λ w. x (l ∙ w)) ∙ rw (← l) (form-empty (shapeOf s) (mapOf s k) (sym e ∙ z))
 
-  pub good-form : (h ≡ 0 → ⊥) → goodMap s i ≡ all (eqb X) (drop h (unitWords (shapeOf s) (mapOf s k)))
-  good-form z =
-      named-map s i (λ w. x (l ∙ w))
-      ∙ rw (← l, e) (form-some (isUnit (shapeOf s)) (unitWords (shapeOf s) (mapOf s k)) (λ w. z (e ∙ w)))
+  pub good-form : (h ≡ 0 → ⊥) → goodMap s i ≡ (all (eqb X) (drop h (unitWordsOf s k)) && sizeFits (shapeOf s) h (mapOf s k))
+  good-form z = named-map s i (λ w. x (l ∙ w)) ∙ rw (← l, e) (form-held (shapeOf s) (mapOf s k) (λ w. z (e ∙ w)))
 
 -- ---- what a chunk holds
 
@@ -103,15 +155,15 @@ mapped-of-unit s u i m = is-true (mapped s i) (λ e. contradict m (ap (member u)
 pub length-units : (s : List ℕ) (i : ℕ) → length (unitsOf s i) ≤ shapeOf s .p
 length-units s i = ⊎-elim
     (λ h. let e = ap length (units-mapped s i h) in
-    let l = length-leading (isUnit (shapeOf s)) (mapOf s (linkOf s i)) in
-    let w = length-wordsOf (shapeOf s) s (linkOf s i) in
+    let l = length-leading (isUnit (shapeOf s)) (unitWordsOf s (linkOf s i)) in
+    let w = length-unitWords (shapeOf s) s (linkOf s i) in
     omega arith)
     (λ h. let e = ap length (units-unmapped s i h) in omega arith)
     (either (mapped s i))
 
 pub units-are-units : (s : List ℕ) (u i : ℕ) → member u (unitsOf s i) ≡ true → isUnit (shapeOf s) u ≡ true
 units-are-units s u i m =
-    let ws = unitWords (shapeOf s) (mapOf s (linkOf s i)) in
+    let ws = unitWordsOf s (linkOf s i) in
     all-at (isUnit (shapeOf s)) (leading (isUnit (shapeOf s)) ws) (leading-all (isUnit (shapeOf s)) ws) u
     (sym (ap (member u) (units-mapped s i (mapped-of-unit s u i m))) ∙ m)
 
@@ -143,7 +195,7 @@ module _ (s : List ℕ) (z : Tested s) where
   pub units-some : (i : ℕ) → i < shapeOf s .c → mapped s i ≡ true → 0 < length (unitsOf s i)
   units-some i h m =
       let g = shapeOf s in
-      let f = form-of (isUnit g) (unitWords g (mapOf s (linkOf s i))) (sym (named-map s i (mapped-named s i m)) ∙ z .maps i h) in
+      let f = map-form g (mapOf s (linkOf s i)) (sym (named-map s i (mapped-named s i m)) ∙ z .maps i h) .units in
       omega (arith, ap length (units-mapped s i m), f .some)
 
   -- two chunks of which neither clashes with the other are one

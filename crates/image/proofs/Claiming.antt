@@ -14,10 +14,10 @@ use Rattle.search.specs.Search.{from, below, all, any, member, distinct, disjoi
 use Rattle.search.specs.Sets.{put, without}
 use Rattle.bitset.specs.Bits.{bitSet, inSet, removed}
 use Rattle.image.specs.Free.{freeUnit, freeMap}
-use Rattle.layout.specs.Layout.{X, isUnit, unitWords, shapeOf, linkOf}
+use Rattle.layout.specs.Layout.{X, isUnit, shapeOf, linkOf}
 use Rattle.image.specs.Soundness.{unitsOf}
 use Rattle.image.specs.Verdicts.{clash, contested, doubleClaim}
-use Rattle.layout.specs.Shaped.{mapOf}
+use Rattle.layout.specs.Shaped.{unitWordsOf}
 use Rattle.image.specs.Claims.{heldIn, TakenOut, Claimed, Scanned, unheld, unnamed}
 use Rattle.layout.specs.declared.Shape.{Shape}
 use Rattle.search.proofs.Taken.{rest, rest-more, rest-stop, rest-end, without-more, without-none, put-other, without-last-cell}
@@ -27,25 +27,26 @@ use Rattle.search.proofs.Distinct.{meets}
 use Rattle.search.proofs.Bools.{eqb-comm}
 use Rattle.image.proofs.Chunks.{units-absent, units-named}
 use Rattle.image.proofs.Leading.{leading-all}
+use Rattle.image.specs.Loading.{unitSetWords, mapSetWords}
 use Rattle.bitset.proofs.BitSets.{bitSet-ext, in-bitSet, removed-set}
 
 -- ---- the numbers us, of which the first j have been taken out of the set f
 
 module _ (f : ℕ → Bool) (us : List ℕ) (j x : ℕ) (w : x ≡ getD us j 0) (h : j < length us) (units : List ℕ)
-    (e : units ≡ bitSet (without f (take j us)) 72) (r : (all f us && distinct us) ≡ rest f us j) (found : Bool)
-    (b : getD us j 0 < 64 * 72) (t : found ≡ inSet units x) where
+    (e : units ≡ bitSet (without f (take j us)) unitSetWords) (r : (all f us && distinct us) ≡ rest f us j) (found : Bool)
+    (b : getD us j 0 < 64 * unitSetWords) (t : found ≡ inSet units x) where
   g : ℕ → Bool
   g = without f (take j us)
 
   here : found ≡ g (getD us j 0)
   unfolding g
-  here = t ∙ rw e (in-bitSet (without f (take j us)) 72 x (omega (arith, w, b))) ∙ ap (without f (take j us)) w
+  here = t ∙ rw e (in-bitSet (without f (take j us)) unitSetWords x (omega (arith, w, b))) ∙ ap (without f (take j us)) w
 
   pub take-more : (after : List ℕ) → after ≡ removed units x → found ≡ true
-      → (after ≡ bitSet (without f (take (j + 1) us)) 72) × ((all f us && distinct us) ≡ rest f us (j + 1))
+      → (after ≡ bitSet (without f (take (j + 1) us)) unitSetWords) × ((all f us && distinct us) ≡ rest f us (j + 1))
   unfolding g
   take-more after s y = (
-    s ∙ ap (λ (ws : List ℕ). removed ws x) e ∙ removed-set (without f (take j us)) 72 x ∙ rw w (bitSet-ext _ _ 72 (λ y l. without-more f us j h y)),
+    s ∙ ap (λ (ws : List ℕ). removed ws x) e ∙ removed-set (without f (take j us)) unitSetWords x ∙ rw w (bitSet-ext _ _ unitSetWords (λ y l. without-more f us j h y)),
     r ∙ rest-more f us j h (sym here ∙ y),
   )
 
@@ -53,7 +54,7 @@ module _ (f : ℕ → Bool) (us : List ℕ) (j x : ℕ) (w : x ≡ getD us j 0) 
   unfolding g
   take-stop y = record { right = sym (r ∙ rest-stop f us j h (sym here ∙ y)); left = λ z. absurd (false≢true z) }
 
-pub take-end : (f : ℕ → Bool) (us : List ℕ) (j : ℕ) (units : List ℕ) → length us ≤ j → units ≡ bitSet (without f (take j us)) 72
+pub take-end : (f : ℕ → Bool) (us : List ℕ) (j : ℕ) (units : List ℕ) → length us ≤ j → units ≡ bitSet (without f (take j us)) unitSetWords
     → (all f us && distinct us) ≡ rest f us j → TakenOut f us true units
 take-end f us j units h e r =
     record { right = sym (r ∙ rest-end f us j h); left = λ z. e ∙ rw (take-all j us h) }
@@ -70,7 +71,7 @@ pub unheld-more : (s : List ℕ) (j u : ℕ) → unheld s (j + 1) u ≡ without 
 unfolding unheld without
 unheld-more s j u =
     rw (any-below-more (λ i. member u (unitsOf s i)) j)
-    (unheld-cell (ltb u (shapeOf s .n)) (any (λ i. member u (unitsOf s i)) (below j)) (member u (unitsOf s j)))
+    (unheld-cell (isUnit (shapeOf s) u) (any (λ i. member u (unitsOf s i)) (below j)) (member u (unitsOf s j)))
 
 pub unnamed-more : (s : List ℕ) (j k : ℕ) → unnamed s (j + 1) k ≡ put (unnamed s j) (linkOf s j) false k
 unfolding unnamed put
@@ -113,7 +114,7 @@ module _ (s : List ℕ) (j : ℕ) (e : linkOf s j ≡ X → ⊥) (l : linkOf s j
   fresh =
       let unit = isUnit (shapeOf s) in
       let xs = unitsOf s j in
-      let low : all unit xs ≡ true = rw (units-named s j e) (leading-all unit (unitWords (shapeOf s) (mapOf s (linkOf s j)))) in
+      let low : all unit xs ≡ true = rw (units-named s j e) (leading-all unit (unitWordsOf s (linkOf s j))) in
       all-and unit (λ x. not (any (λ i. member x (unitsOf s i)) (below j))) xs
       ∙ ap (λ (b : Bool). b && all (λ x. not (any (λ i. member x (unitsOf s i)) (below j))) xs) low
       ∙ all-not (λ x. any (λ i. member x (unitsOf s i)) (below j)) xs
@@ -139,17 +140,17 @@ module _ (s : List ℕ) (j : ℕ) (e : linkOf s j ≡ X → ⊥) (l : linkOf s j
 
 -- ---- what `claim` owes at each of its returns, where the code has the chunk's entry k
 
-pub claimed-absent : (s : List ℕ) (j k : ℕ) → k ≡ linkOf s j → k ≡ X → (units maps : List ℕ) → units ≡ bitSet (unheld s j) 72 → maps ≡ bitSet (unnamed s j) 5
+pub claimed-absent : (s : List ℕ) (j k : ℕ) → k ≡ linkOf s j → k ≡ X → (units maps : List ℕ) → units ≡ bitSet (unheld s j) unitSetWords → maps ≡ bitSet (unnamed s j) mapSetWords
     → Claimed s j true units maps
 claimed-absent s j k l x units maps u m =
     let e : linkOf s j ≡ X = sym l ∙ x in
     record {
       right = sym (ap not (absent-apart s j e));
-      units-left = λ z. u ∙ bitSet-ext _ _ 72 (λ y h. absent-units s j e y);
-      maps-left = λ z. m ∙ bitSet-ext _ _ 5 (λ y h. sym (unnamed-more s j y ∙ put-other (unnamed s j) (linkOf s j) false y (λ w. absent-map y h e w)));
+      units-left = λ z. u ∙ bitSet-ext _ _ unitSetWords (λ y h. absent-units s j e y);
+      maps-left = λ z. m ∙ bitSet-ext _ _ mapSetWords (λ y h. sym (unnamed-more s j y ∙ put-other (unnamed s j) (linkOf s j) false y (λ w. absent-map y h e w)));
     }
   where
-    absent-map : (y : ℕ) → y < 64 * 5 → linkOf s j ≡ X → y ≡ linkOf s j → ⊥
+    absent-map : (y : ℕ) → y < 64 * mapSetWords → linkOf s j ≡ X → y ≡ linkOf s j → ⊥
     absent-map y h e w = omega arith
 
 module _ (s : List ℕ) (j k : ℕ) (l : k ≡ linkOf s j) (x : k ≡ X → ⊥) (b : k < shapeOf s .m) where
@@ -166,33 +167,33 @@ module _ (s : List ℕ) (j k : ℕ) (l : k ≡ linkOf s j) (x : k ≡ X → ⊥)
       record { right = sym (claims ∙ rw n); units-left = λ z. absurd (false≢true z); maps-left = λ z. absurd (false≢true z) }
 
   pub claimed-named : (ok : Bool) (units maps : List ℕ) → unnamed s j k ≡ true → TakenOut (unheld s j) (heldIn s k) ok units
-      → maps ≡ bitSet (put (unnamed s j) k false) 5 → Claimed s j ok units maps
+      → maps ≡ bitSet (put (unnamed s j) k false) mapSetWords → Claimed s j ok units maps
   claimed-named ok units maps n t m =
       record {
         right = t .right ∙ sym (claims ∙ rw n);
-        units-left = λ z. t .left z ∙ bitSet-ext _ _ 72 (λ y h. sym (unheld-more s j y ∙ rw (units-named s j named, l)));
-        maps-left = λ z. m ∙ bitSet-ext _ _ 5 (λ y h. sym (unnamed-more s j y ∙ rw (← l)));
+        units-left = λ z. t .left z ∙ bitSet-ext _ _ unitSetWords (λ y h. sym (unheld-more s j y ∙ rw (units-named s j named, l)));
+        maps-left = λ z. m ∙ bitSet-ext _ _ mapSetWords (λ y h. sym (unnamed-more s j y ∙ rw (← l)));
       }
 
 -- ---- before the first chunk, and after the last
 
 module _ (s : List ℕ) (g : Shape) (e : g ≡ shapeOf s) where
   pub unheld-start : (u : ℕ) → ltb u (g .n) ≡ unheld s 0 u
-  unfolding unheld any from
+  unfolding unheld any from isUnit
   unheld-start u = ap (λ (h : Shape). ltb u (h .n)) e ∙ sym (and-true (ltb u (shapeOf s .n)))
 
   pub unnamed-start : (k : ℕ) → ltb k (g .m) ≡ unnamed s 0 k
   unfolding unnamed any from
   unnamed-start k = ap (λ (h : Shape). ltb k (h .m)) e ∙ sym (and-true (ltb k (shapeOf s .m)))
 
-  pub scanned-all : (j : ℕ) (units maps : List ℕ) → j ≡ g .c → j ≡ doubleClaim s → units ≡ bitSet (unheld s j) 72 → maps ≡ bitSet (unnamed s j) 5
+  pub scanned-all : (j : ℕ) (units maps : List ℕ) → j ≡ g .c → j ≡ doubleClaim s → units ≡ bitSet (unheld s j) unitSetWords → maps ≡ bitSet (unnamed s j) mapSetWords
       → Scanned s j units maps
   unfolding unheld unnamed freeUnit freeMap
   scanned-all j units maps l r u m =
       record {
         right = r;
-        units-left = λ z. u ∙ ap (λ (i : ℕ). bitSet (unheld s i) 72) z;
-        maps-left = λ z. m ∙ ap (λ (i : ℕ). bitSet (unnamed s i) 5) z;
+        units-left = λ z. u ∙ ap (λ (i : ℕ). bitSet (unheld s i) unitSetWords) z;
+        maps-left = λ z. m ∙ ap (λ (i : ℕ). bitSet (unnamed s i) mapSetWords) z;
       }
 
   pub scanned-part : (j : ℕ) (units maps : List ℕ) → j < g .c → j ≡ doubleClaim s → Scanned s j units maps

@@ -10,7 +10,7 @@ use Rattle.layout.specs.declared.Shape.{Shape}
 use Rattle.search.specs.Search.{member, distinct}
 use Rattle.layout.specs.Layout.{X, isUnit, unitWords, linkOf, wordsOf, wordAt, mapWordPlace, mapWords}
 use Rattle.image.specs.Soundness.{leading, mapped, unitsOf}
-use Rattle.image.specs.Verdicts.{wellFormed}
+use Rattle.image.specs.Verdicts.{goodForm}
 use Rattle.search.proofs.Bools.{either, cond-true, cond-false}
 use Rattle.search.proofs.Mapping.{map-below-ext}
 use Rattle.layout.specs.Shaped.{On}
@@ -24,7 +24,7 @@ pub record Same (g : Shape) (s t : List ℕ) (i : ℕ) : Type 0 where
 -- chunk i names a map that was free, with units that were free
 pub record Renewed (g : Shape) (s t : List ℕ) (i : ℕ) : Type 0 where
   pub bound : linkOf t i < g .m
-  pub formed : wellFormed (isUnit g) (unitWords g (wordsOf g t (linkOf t i))) ≡ true
+  pub formed : goodForm g (wordsOf g t (linkOf t i)) ≡ true
   pub single : distinct (unitsOf t i) ≡ true
   pub free-map : (j : ℕ) → j < g .c → linkOf s j ≢ linkOf t i
   pub free-units : (j u : ℕ) → j < g .c → member u (unitsOf t i) ≡ true → member u (unitsOf s j) ≡ true → ⊥
@@ -62,7 +62,7 @@ module _ (g : Shape) (s t : List ℕ) (os : On g s) (ot : On g t) where
   same-chunk i a k = record {
     bound = λ p. subst (λ (l : ℕ). l < g .m) (sym (a .link)) (k .bound (sym (same-mapped i a) ∙ p));
     formed = λ p.
-        ap (λ (ws : List ℕ). wellFormed (isUnit g) (unitWords g ws)) (same-words i a (sym (same-mapped i a) ∙ p)) ∙ k .formed (sym (same-mapped i a) ∙ p);
+        ap (goodForm g) (same-words i a (sym (same-mapped i a) ∙ p)) ∙ k .formed (sym (same-mapped i a) ∙ p);
     single = ap distinct (same-units i a) ∙ k .single;
   }
 

@@ -8,7 +8,7 @@ use borrow.Author.Tests.{le-ltb}
 use Rattle.bitset.specs.Bits.{members, bitSet}
 use Rattle.bitset.proofs.Members.{members-below}
 use Rattle.layout.specs.Layout.{shapeOf, fitting}
-use Rattle.layout.proofs.Limits.{fitting-limits, units-high}
+use Rattle.layout.proofs.Limits.{fitting-limits, units-high, past-units}
 use Rattle.image.specs.declared.Loaded.{Loaded}
 use Rattle.image.specs.Free.{freeUnit, freeMap, freeUnits, freeMaps}
 use Rattle.image.specs.Loading.{unitSetWords, mapSetWords}
@@ -17,7 +17,7 @@ use Rattle.image.proofs.Loads.{Known}
 module _ (s : List ℕ) where
   no-unit : (u : ℕ) → shapeOf s .n ≤ u → freeUnit s u ≡ false
   unfolding freeUnit
-  no-unit u h = rw (le-ltb u (shapeOf s .n) h)
+  no-unit u h = rw (past-units (shapeOf s) u h)
 
   no-map : (k : ℕ) → shapeOf s .m ≤ k → freeMap s k ≡ false
   unfolding freeMap

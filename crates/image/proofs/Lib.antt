@@ -9,7 +9,9 @@ pub mod Loads
 pub mod FreeSets
 pub mod Room
 pub mod Order
+pub mod NewMap
 pub mod Fate
+pub mod Storing
 pub mod Wording
 pub mod Freed
 pub mod Fresh

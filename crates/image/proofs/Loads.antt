@@ -13,7 +13,7 @@ use Rattle.image.specs.declared.Loaded.{Loaded}
 use Rattle.image.specs.Claims.{Tested}
 use Rattle.image.specs.Verdicts.{verdict}
 use Rattle.image.specs.Free.{freeUnit, freeMap}
-use Rattle.image.specs.Loading.{answer, loaded}
+use Rattle.image.specs.Loading.{unitSetWords, mapSetWords, answer, loaded}
 use Rattle.image.specs.Answers.{ifSound}
 use Rattle.image.proofs.SoundLaws.{passed-tested}
 
@@ -28,8 +28,8 @@ pub record Known (s : List ℕ) (l : Loaded) : Type 0 where
   pub shape : l .shape ≡ shapeOf s
   pub on : On (l .shape) s
   pub shaped : Shaped s (l .shape)
-  pub units : l .units ≡ bitSet (freeUnit s) 72
-  pub maps : l .maps ≡ bitSet (freeMap s) 5
+  pub units : l .units ≡ bitSet (freeUnit s) unitSetWords
+  pub maps : l .maps ≡ bitSet (freeMap s) mapSetWords
 
 module _ (s : List ℕ) (l : Loaded) (e : l ≡ loaded s) where
   pub loaded-verdict : l .verdict ≡ verdict s

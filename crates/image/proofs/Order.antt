@@ -12,7 +12,7 @@ use Rattle.search.specs.Search.{member, distinct, disjoint}
 use Rattle.layout.specs.Layout.{isUnit, unitWords, shapeOf, known, fitting, linkOf, wordsOf}
 use Rattle.image.specs.Claims.{Tested}
 use Rattle.image.specs.Soundness.{leading, mapped, unitsOf}
-use Rattle.image.specs.Verdicts.{wellFormed, clash}
+use Rattle.image.specs.Verdicts.{goodForm, clash}
 use Rattle.search.proofs.Bools.{implied, implies, contradict, either, is-false, and-left, and-right, or-cases}
 use Rattle.search.proofs.Members.{any-at}
 use Rattle.search.proofs.Distinct.{disjoint-at, meets}
@@ -30,7 +30,7 @@ units-in {g} {s} o i = ap (λ (h : Shape). unitsIn h s i) (o .shape)
 -- chunk i's entry and map are in order
 pub record Chunk (g : Shape) (s : List ℕ) (i : ℕ) : Type 0 where
   pub bound : mapped s i ≡ true → linkOf s i < g .m
-  pub formed : mapped s i ≡ true → wellFormed (isUnit g) (unitWords g (wordsOf g s (linkOf s i))) ≡ true
+  pub formed : mapped s i ≡ true → goodForm g (wordsOf g s (linkOf s i)) ≡ true
   pub single : distinct (unitsOf s i) ≡ true
 
 -- chunks i and j share neither map nor unit
@@ -89,7 +89,7 @@ orderly {s} d = record {
   on = record { long = d .long; shape = refl; known = d .known; fitting = d .fitting };
   chunk = λ i h. record {
     bound = λ p. ltb-true (linkOf s i) (shapeOf s .m) (implied (mapped s i) (ltb (linkOf s i) (shapeOf s .m)) (d .links i h) p);
-    formed = λ p. implied (mapped s i) (wellFormed (isUnit (shapeOf s)) (unitWords (shapeOf s) (wordsOf (shapeOf s) s (linkOf s i)))) (d .maps i h) p;
+    formed = λ p. implied (mapped s i) (goodForm (shapeOf s) (wordsOf (shapeOf s) s (linkOf s i))) (d .maps i h) p;
     single = d .single i h;
   };
   apart = λ i j h k n. ordered i j h k n (either (ltb i j));
@@ -107,7 +107,7 @@ orderly-tested {g} {s} d =
       known = d .on .known;
       fitting = d .on .fitting;
       links = λ i h. implies (mapped s i) (ltb (linkOf s i) (shapeOf s .m)) (λ p. lt-ltb (linkOf s i) (shapeOf s .m) (subst (λ (k : Shape). linkOf s i < k .m) (sym e) (d .chunk i (below-c i h) .bound p)));
-      maps = λ i h. implies (mapped s i) (wellFormed (isUnit (shapeOf s)) (unitWords (shapeOf s) (wordsOf (shapeOf s) s (linkOf s i)))) (λ p. subst (λ (k : Shape). wellFormed (isUnit k) (unitWords k (wordsOf k s (linkOf s i))) ≡ true) (sym e) (d .chunk i (below-c i h) .formed p));
+      maps = λ i h. implies (mapped s i) (goodForm (shapeOf s) (wordsOf (shapeOf s) s (linkOf s i))) (λ p. subst (λ (k : Shape). goodForm k (wordsOf k s (linkOf s i)) ≡ true) (sym e) (d .chunk i (below-c i h) .formed p));
       apart = λ i j l h. apart-clash s i j (d .apart i j (omega (arith, below-c j h)) (below-c j h) (λ q. omega arith));
       single = λ i h. d .chunk i (below-c i h) .single;
     }

@@ -13,7 +13,7 @@ use Rattle.search.proofs.Bools.{either}
 use Rattle.search.proofs.Ranges.{lowest-before, lowest-holds, lowest-is, lowest-none, lowest-le}
 use Rattle.layout.specs.declared.Refusal.{Refusal}
 use Rattle.layout.specs.declared.Refusal.the-variants.{Short, Foreign, Geometry, BadLink, BadMap, Shared, Range, Size, NoRoom, Small, BadPlan, BadAlarm}
-use Rattle.layout.specs.Layout.{trailerBytes, shapeOf, known, fitting}
+use Rattle.layout.specs.Layout.{firstEdition, trailerBytes, shapeOf, known, fitting}
 use Rattle.layout.specs.Trailer.{trailerOutcome}
 use Rattle.image.specs.declared.Verdict.{Verdict}
 use Rattle.image.specs.declared.Verdict.the-variants.{Refused, Passed}
@@ -68,33 +68,33 @@ module _ (s : List ℕ) where
       says-cond s (ltb (badMap s) c) (BadMap (badMap s)) _ (λ d. (l, found-lowest (λ j. not (goodMap s j)) c d)) (λ d.
       says-sharing (l, λ i h. not-false _ (none-found (λ j. not (goodMap s j)) c d i h))))
 
-  short-verdict : length s < trailerBytes → verdict s ≡ Refused Short
+  short-verdict : length s < trailerBytes firstEdition → verdict s ≡ Refused Short
   unfolding verdict trailerOutcome
-  short-verdict l = rw (lt-ltb (length s) trailerBytes l)
+  short-verdict l = rw (lt-ltb (length s) (trailerBytes firstEdition) l)
 
-  foreign-verdict : trailerBytes ≤ length s → known s ≡ false → verdict s ≡ Refused Foreign
+  foreign-verdict : trailerBytes firstEdition ≤ length s → known s ≡ false → verdict s ≡ Refused Foreign
   unfolding verdict trailerOutcome
-  foreign-verdict l k = rw (le-ltb (length s) trailerBytes l, k)
+  foreign-verdict l k = rw (le-ltb (length s) (trailerBytes firstEdition) l, k)
 
-  geometry-verdict : trailerBytes ≤ length s → known s ≡ true → fitting s ≡ false → verdict s ≡ Refused Geometry
+  geometry-verdict : trailerBytes firstEdition ≤ length s → known s ≡ true → fitting s ≡ false → verdict s ≡ Refused Geometry
   unfolding verdict trailerOutcome
-  geometry-verdict l k f = rw (le-ltb (length s) trailerBytes l, k, f)
+  geometry-verdict l k f = rw (le-ltb (length s) (trailerBytes firstEdition) l, k, f)
 
   trailed-verdict : PastRow3 s → verdict s ≡ chunkVerdict s
   unfolding verdict trailerOutcome
-  trailed-verdict t = rw (le-ltb (length s) trailerBytes (t .0), t .1, t .2)
+  trailed-verdict t = rw (le-ltb (length s) (trailerBytes firstEdition) (t .0), t .1, t .2)
 
   says-verdict : Says s (verdict s)
   says-verdict =
-      ⊎-elim (λ a. let l = ltb-true (length s) trailerBytes a in subst (Says s) (sym (short-verdict l)) l) (λ a.
-      let l = ltb-false (length s) trailerBytes a in
+      ⊎-elim (λ a. let l = ltb-true (length s) (trailerBytes firstEdition) a in subst (Says s) (sym (short-verdict l)) l) (λ a.
+      let l = ltb-false (length s) (trailerBytes firstEdition) a in
       ⊎-elim (λ k. ⊎-elim
       (λ f. subst (Says s) (sym (trailed-verdict (l, k, f))) (says-chunks (l, k, f)))
       (λ f. subst (Says s) (sym (geometry-verdict l k f)) (l, k, f))
       (either (fitting s)))
       (λ k. subst (Says s) (sym (foreign-verdict l k)) (l, k))
       (either (known s)))
-      (either (ltb (length s) trailerBytes))
+      (either (ltb (length s) (trailerBytes firstEdition)))
 
   pub refused-row : (r : Refusal) → verdict s ≡ Refused r → Row s r
   refused-row r e = subst (Says s) e says-verdict

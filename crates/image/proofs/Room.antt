@@ -13,7 +13,7 @@ use lib.ListN.{length}
 use lib.Dec.{eqb, ltb}
 use borrow.Author.Tests.{ltb-true, lt-ltb, eqb-false, ne-eqb, not-true}
 use Rattle.search.specs.Search.{below, keep, member, distinct, joined}
-use Rattle.layout.specs.Layout.{shapeOf, linkOf, fitting}
+use Rattle.layout.specs.Layout.{isUnit, shapeOf, linkOf, fitting}
 use Rattle.image.specs.Claims.{Tested}
 use Rattle.image.specs.Soundness.{unitsOf}
 use Rattle.image.specs.Free.{freeUnit, freeMap, freeUnits, freeMaps, heldUnits}
@@ -25,24 +25,24 @@ use Rattle.search.proofs.Distinct.{distinct-from, distinct-keep}
 use Rattle.search.proofs.Counting.{unlisted, unlisted-exactly}
 use Rattle.search.proofs.Joined.{distinct-joined, member-joined, length-joined}
 use Rattle.search.specs.Sets.{without}
-use Rattle.layout.proofs.Limits.{fitting-limits}
+use Rattle.layout.proofs.Limits.{fitting-limits, unit-below, below-unit}
 use Rattle.image.proofs.Chunks.{length-units, units-below, clash-units}
 
 -- ---- the tests
 
 pub freeUnit-below : (s : List ℕ) (u : ℕ) → freeUnit s u ≡ true → u < shapeOf s .n
 unfolding freeUnit
-freeUnit-below s u e = ltb-true u (shapeOf s .n) (and-left (ltb u (shapeOf s .n)) _ e)
+freeUnit-below s u e = unit-below (shapeOf s) u (and-left (isUnit (shapeOf s) u) _ e)
 
 pub freeUnit-unheld : (s : List ℕ) (u : ℕ) → freeUnit s u ≡ true → (i : ℕ) → i < shapeOf s .c → member u (unitsOf s i) ≡ false
 unfolding freeUnit
 freeUnit-unheld s u e =
-    any-below-none (λ i. member u (unitsOf s i)) (shapeOf s .c) (not-true _ (and-right (ltb u (shapeOf s .n)) _ e))
+    any-below-none (λ i. member u (unitsOf s i)) (shapeOf s .c) (not-true _ (and-right (isUnit (shapeOf s) u) _ e))
 
 pub freeUnit-intro : (s : List ℕ) (u : ℕ) → u < shapeOf s .n → ((i : ℕ) → i < shapeOf s .c → member u (unitsOf s i) ≡ false) → freeUnit s u ≡ true
 unfolding freeUnit
 freeUnit-intro s u h f =
-    and-intro (ltb u (shapeOf s .n)) _ (lt-ltb u (shapeOf s .n) h)
+    and-intro (isUnit (shapeOf s) u) _ (below-unit (shapeOf s) u h)
     (not-of-false _ (any-below-none-intro (λ i. member u (unitsOf s i)) (shapeOf s .c) f))
 
 pub freeMap-below : (s : List ℕ) (k : ℕ) → freeMap s k ≡ true → k < shapeOf s .m

@@ -1,9 +1,9 @@
 -- The theorems of this crate that a reader wants: nothing else cites them. `Bytes s` says that each element of s is below 256, as every lent
 -- image's is.
 use Prim.Native.Nat.{ℕ, _+_, _*_, _≤_, _<_}
-use mathlib.Core.Path.{_≡_, refl, ap, _∙_}
+use mathlib.Core.Path.{_≡_, refl, sym, ap, subst, _∙_}
 use mathlib.Core.Logic.{_⊎_, inl, inr}
-use mathlib.Core.Bool.{true, not}
+use mathlib.Core.Bool.{true, false, not}
 use mathlib.Core.List.{List}
 use lib.ListN.{length}
 use lib.Dec.{ltb}
@@ -13,23 +13,27 @@ use Rattle.bitset.specs.Bits.{bitSet}
 use Rattle.bitset.proofs.BitSets.{bitSet-ext}
 use Rattle.layout.specs.declared.Shape.{Shape}
 use Rattle.layout.specs.declared.Refusal.{Refusal}
+use Rattle.layout.specs.declared.Refusal.the-variants.{Foreign}
 use Rattle.layout.specs.declared.Formatted.the-variants.{Done}
-use Rattle.layout.specs.Layout.{X, isUnit, wordAt, shapeOf, fresh}
+use Rattle.layout.specs.Layout.{X, firstEdition, lastEdition, unitsFor, isUnit, wordAt, trailerBytes, knownAs, shapeOf, fresh}
 use Rattle.layout.specs.Shaped.{wordCount}
-use Rattle.layout.specs.Format.{formatAnswer, formatImage}
+use Rattle.layout.specs.Format.{formatAnswer, formatImage, format2Answer, format2Image}
 use Rattle.layout.proofs.Limits.{limits}
-use Rattle.layout.proofs.Formatting.{formatted}
+use Rattle.layout.proofs.Formatting.{formatted, formatted2}
 use Rattle.image.specs.declared.Verdict.{Verdict}
 use Rattle.image.specs.declared.Verdict.the-variants.{Refused, Passed}
-use Rattle.image.specs.Soundness.{NamesUnit, Sound}
-use Rattle.image.specs.Verdicts.{verdict}
+use Rattle.image.specs.Soundness.{unitsOf, Named, NamesUnit, Sound}
+use Rattle.image.specs.Verdicts.{verdict, firstVerdict}
 use Rattle.image.specs.Rows.{Row}
+use Rattle.image.specs.Stored.{storedSize}
 use Rattle.image.specs.Free.{freeUnit, freeMap, freeUnits, freeMaps, heldUnits}
 use Rattle.image.specs.Loading.{unitSetWords, mapSetWords, answer, loaded}
+use Rattle.image.proofs.Verdicts.{read-first, read-other}
 use Rattle.image.proofs.SoundLaws.{passed-tested, tested-passed}
-use Rattle.image.proofs.Wording.{tested-sound, sound-tested, sound-shape, held-named, named-held}
+use Rattle.image.proofs.Wording.{tested-sound, sound-tested, sound-shape, sound-first, sound-second, held-named, named-held}
 use Rattle.image.proofs.Refusing.{refused-row, row-refused}
 use Rattle.image.proofs.Room.{free-or-held, held-below, distinct-held, free-and-held, some-map-free, units-free}
+use Rattle.image.proofs.Storing.{size-of-units}
 use Rattle.image.proofs.Fresh.{word-fresh, sound-fresh, freeUnit-fresh, freeMap-fresh}
 
 -- ---- "every sound image loaded, every other refused"
@@ -47,6 +51,20 @@ refused-is-row = refused-row
 
 pub row-is-refused : (s : List ℕ) (r : Refusal) → Row s r → verdict s ≡ Refused r
 row-is-refused = row-refused
+
+-- "Edition 1 code must give 2 on it", and passes what it always passed.
+pub second-is-foreign : (g : Shape) (s : List ℕ) → Sound g s → g .edition ≡ lastEdition → firstVerdict s ≡ Refused Foreign
+second-is-foreign g s z e = read-other s (sound-tested g s z .long) (sound-second g s z e)
+
+pub first-is-passed : (g : Shape) (s : List ℕ) → Sound g s → g .edition ≡ firstEdition → firstVerdict s ≡ Passed
+first-is-passed g s z e = read-first s (sound-first g s z e) ∙ sound-is-passed g s z .0
+
+-- Whatever it reads as edition 1 gets its verdict, a refusal too; anything else of 32 bytes or more gets 2, sound or damaged.
+pub first-as-before : (s : List ℕ) → knownAs firstEdition s ≡ true → firstVerdict s ≡ verdict s
+first-as-before = read-first
+
+pub other-is-foreign : (s : List ℕ) → trailerBytes firstEdition ≤ length s → knownAs firstEdition s ≡ false → firstVerdict s ≡ Refused Foreign
+other-is-foreign = read-other
 
 -- Any bytes are a sound image, which loads with its shape and its free sets, or are refused with their row.
 pub sound-loads : (g : Shape) (s : List ℕ) → Sound g s
@@ -84,6 +102,11 @@ named-is-held = named-held
 pub held-once : (g : Shape) (s : List ℕ) → Sound g s → distinct (heldUnits s) ≡ true
 held-once g s z = distinct-held s (sound-tested g s z)
 
+-- "A sound map has k equal to the size rounded up in units": of every chunk that names a map, in either edition.
+pub stored-size-fits : (g : Shape) (s : List ℕ) → Sound g s → (i : ℕ) → i < g .c → Named s i → unitsFor (storedSize s i) ≡ length (unitsOf s i)
+stored-size-fits g s z i b n =
+    size-of-units s (sound-tested g s z) i (subst (λ (h : Shape). i < h .c) (sym (sound-shape g s z)) b) n
+
 pub units-counted : (g : Shape) (s : List ℕ) → Sound g s → length (freeUnits s) + length (heldUnits s) ≡ g .n
 units-counted g s z = free-and-held s (sound-tested g s z) ∙ ap (λ (h : Shape). h .n) (sound-shape g s z)
 
@@ -108,6 +131,11 @@ fresh-is-absent = word-fresh
 -- What format writes is sound, loads back as the four numbers, and has every unit and every map free.
 pub format-is-sound : (g : Shape) (s : List ℕ) → formatAnswer g s ≡ Done → Sound g (formatImage g s)
 format-is-sound g s d = let f = formatted g s d in rw (f .1) (sound-fresh g (limits g (f .0)))
+
+-- The same of edition 2, which takes R too: 0.
+pub format2-is-format : (g : Shape) (r : ℕ) (s : List ℕ) → format2Answer g r s ≡ Done
+    → (r ≡ 0) × (formatAnswer g s ≡ Done) × (format2Image g r s ≡ formatImage g s)
+format2-is-format = formatted2
 
 pub format-loads : (g : Shape) (s : List ℕ) → formatAnswer g s ≡ Done
     → loaded (formatImage g s)

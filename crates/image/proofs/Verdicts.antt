@@ -1,19 +1,22 @@
--- Laws of rows 4 to 6: which refusal each finding of the scans gives.
+-- Laws of rows 4 to 6: which refusal each finding of the scans gives; and laws of 01's own verdict.
 use Prim.Native.Nat.{ℕ, _<_, _≤_}
 use mathlib.Core.Path.{_≡_, ap, sym, _∙_}
-use mathlib.Core.Bool.{true, not}
+use mathlib.Core.Bool.{true, false, not}
 use mathlib.Core.List.{List}
+use lib.ListN.{length}
+use lib.Dec.{ltb}
 use native.Mathlib.Omega.{arith}
 use borrow.Author.Tests.{lt-ltb, le-ltb, not-false}
 use Rattle.layout.specs.declared.Shape.{Shape}
-use Rattle.layout.specs.declared.Refusal.the-variants.{BadLink, BadMap, Shared}
+use Rattle.layout.specs.declared.Refusal.the-variants.{Foreign, BadLink, BadMap, Shared}
 use Rattle.image.specs.declared.Verdict.{Verdict}
 use Rattle.image.specs.declared.Verdict.the-variants.{Refused, Passed}
 use Rattle.image.specs.declared.Loaded.{Loaded}
-use Rattle.layout.specs.Layout.{shapeOf}
-use Rattle.image.specs.Verdicts.{goodLink, badLink, badMap, doubleClaim, firstClaim, clash, contested, chunkVerdict, verdict}
+use Rattle.layout.specs.Layout.{firstEdition, trailerBytes, knownAs, shapeOf}
+use Rattle.image.specs.Verdicts.{goodLink, badLink, badMap, doubleClaim, firstClaim, clash, contested, chunkVerdict, verdict, asFirst, firstVerdict}
 use Rattle.image.specs.Claims.{Scanned, Judged}
 use Rattle.image.specs.Loading.{answer, loaded}
+use Rattle.search.proofs.Bools.{cond-true, cond-false, or-right, or-none}
 use Rattle.search.proofs.Ranges.{lowest-before, lowest-le}
 use Rattle.layout.specs.declared.Refusal.{Refusal}
 use Rattle.layout.specs.declared.Trailer.the-variants.{Fits, Refused as TrailerRefused}
@@ -87,3 +90,22 @@ verdict-refused s r e = rw e
 pub verdict-fits : (s : List ℕ) (g : Shape) → trailerOutcome s ≡ Fits g → verdict s ≡ chunkVerdict s
 unfolding verdict
 verdict-fits s g e = rw e
+
+-- ---- 01's own verdict
+
+module _ (s : List ℕ) where
+  pub first-verdict : asFirst s ≡ true → firstVerdict s ≡ verdict s
+  unfolding firstVerdict
+  first-verdict h = cond-true (asFirst s) (verdict s) (Refused Foreign) h
+
+  pub first-foreign : asFirst s ≡ false → firstVerdict s ≡ Refused Foreign
+  unfolding firstVerdict
+  first-foreign h = cond-false (asFirst s) (verdict s) (Refused Foreign) h
+
+  -- by the trailer that is read
+  pub read-first : knownAs firstEdition s ≡ true → firstVerdict s ≡ verdict s
+  read-first k = first-verdict (or-right (ltb (length s) (trailerBytes firstEdition)) (knownAs firstEdition s) k)
+
+  pub read-other : trailerBytes firstEdition ≤ length s → knownAs firstEdition s ≡ false → firstVerdict s ≡ Refused Foreign
+  read-other h k =
+      first-foreign (or-none (ltb (length s) (trailerBytes firstEdition)) (knownAs firstEdition s) (le-ltb (length s) (trailerBytes firstEdition) h) k)

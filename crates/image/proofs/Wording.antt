@@ -18,17 +18,17 @@ use Rattle.search.proofs.Ranges.{any-below, any-below-intro}
 use Rattle.search.proofs.Joined.{member-joined}
 use Rattle.image.specs.Free.{heldUnits}
 use Rattle.layout.specs.declared.Shape.{Shape}
-use Rattle.layout.specs.Layout.{isUnit, trailerStart, trailerOf, trailerAt, shapeOf, known, fitting, linkOf}
-use Rattle.layout.proofs.Limits.{limits-hold, fitting-limits, fitting-length, absent-no-unit}
-use Rattle.layout.proofs.Told.{shape-told, known-told, fitting-told, ends-in-trailer}
+use Rattle.layout.specs.Layout.{firstEdition, lastEdition, isUnit, wordsOf, trailerStart, trailerOf, knownAs, shapeOf, known, fitting, linkOf}
+use Rattle.layout.proofs.Limits.{limits-hold, known-as, shape-edition, fitting-limits, fitting-length, absent-no-unit}
+use Rattle.layout.proofs.Told.{not-first, shape-told, known-told, fitting-told, ends-in-trailer}
 use Rattle.image.specs.Soundness.{mapped, namedWords, unitsOf, leading, NamesUnit, Sound}
 use Rattle.image.specs.Verdicts.{goodMap, clash}
 use Rattle.image.specs.Claims.{Tested, heldIn}
-use Rattle.image.proofs.Leading.{form-of, well-formed, leading-at, length-leading}
+use Rattle.image.proofs.Leading.{leading-at, length-leading}
 use Rattle.image.proofs.Order.{clashing}
-use Rattle.image.proofs.Chunks.{absent-link, absent-map, is-mapped, named-link, named-map, named-below, mapped-named, unmapped-absent, units-mapped, mapped-of-unit, owner, map-owner}
+use Rattle.image.proofs.Chunks.{map-form, form-good, absent-link, absent-map, is-mapped, named-link, named-map, named-below, mapped-named, unmapped-absent, units-mapped, mapped-of-unit, owner, map-owner}
 
--- unit a of a mapped chunk is word a of its map
+-- unit a of a mapped chunk is word a of those of its map that may name units
 pub unit-at : (s : List ℕ) (i a : ℕ) → i < shapeOf s .c → mapped s i ≡ true → a < length (unitsOf s i)
     → NamesUnit (shapeOf s) s i a (getD (unitsOf s i) a 0)
 unit-at s i a c m h =
@@ -60,7 +60,7 @@ pub unit-place : (s : List ℕ) (u i a : ℕ) → fitting s ≡ true → goodMap
 unit-place s u i a fits m n =
     let g = shapeOf s in
     let ws = namedWords g s i in
-    let f = form-of (isUnit g) ws (sym (named-map s i (n .named)) ∙ m) in
+    let f = map-form g (wordsOf g s (linkOf s i)) (sym (named-map s i (n .named)) ∙ m) .units in
     let e = units-mapped s i (is-mapped s i (n .named)) in
     let k = length (leading (isUnit g) ws) in
     let l : a < k =
@@ -92,16 +92,13 @@ module _ (s : List ℕ) (z : Tested s) where
         trailer = t;
         entries = λ i h m. named-below s i m (z .links i h);
         maps = λ i j h l m e. map-owner s z i j h l (is-mapped s i m) (is-mapped s j (λ x. m (e ∙ x))) e;
-        forms = λ i h m. (length (heldIn s (linkOf s i)), form-of (isUnit g) (namedWords g s i) (sym (named-map s i m) ∙ z .maps i h));
+        forms = λ i h m. (length (heldIn s (linkOf s i)), map-form g (wordsOf g s (linkOf s i)) (sym (named-map s i m) ∙ z .maps i h));
         units = once;
       }
 
   -- of a list of bytes, as every lent image is
   pub tested-sound : Bytes s → Sound (shapeOf s) s
-  tested-sound b =
-      let size = fitting-length s (z .fitting) in
-      let e : trailerStart (shapeOf s) ≡ trailerAt s = omega arith in
-      trailed-sound (ap (λ (k : ℕ). drop k s) e ∙ ends-in-trailer s b (z .long) (z .known) (z .fitting))
+  tested-sound b = trailed-sound (ends-in-trailer s b (z .known) (z .fitting))
 
 -- ---- and from the words to the tests
 
@@ -139,7 +136,7 @@ module _ (s : List ℕ) (w : Sound (shapeOf s) s) where
             ⊎-elim
             (λ m. let e = mapped-named s i m in
             let f = w .forms i h e in
-            named-map s i e ∙ well-formed (isUnit g) (f .0) (namedWords g s i) (absent-no-unit g (w .limits)) (f .1))
+            named-map s i e ∙ form-good g (wordsOf g s (linkOf s i)) (f .0) (absent-no-unit g (w .limits)) (f .1))
             (λ m. absent-map s i (unmapped-absent s i m))
             (either (mapped s i));
         apart = sound-apart;
@@ -164,6 +161,15 @@ module _ (g : Shape) (s : List ℕ) (w : Sound g s) where
   sound-tested =
       let l = limits-hold g (w .limits) in
       told-tested s (subst (λ (h : Shape). Sound h s) (sym sound-shape) w) (ap known ends ∙ known-told front g full l) (ap fitting ends ∙ fitting-told front g full l)
+
+  -- the last 32 bytes of an edition 2 image are no edition 1 trailer
+  pub sound-second : g .edition ≡ lastEdition → knownAs firstEdition s ≡ false
+  sound-second e = ap (knownAs firstEdition) ends ∙ not-first front g full (limits-hold g (w .limits)) e
+
+  pub sound-first : g .edition ≡ firstEdition → knownAs firstEdition s ≡ true
+  sound-first e =
+      ap (λ (v : ℕ). knownAs v s) (sym e ∙ sym (ap (λ (h : Shape). h .edition) sound-shape) ∙ shape-edition s) ∙ sym (known-as s)
+      ∙ sound-tested .known
 
 -- ---- what a sound image holds, in its own words
 

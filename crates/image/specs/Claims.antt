@@ -8,8 +8,8 @@ use lib.Dec.{eqb, ltb}
 use Rattle.search.specs.Search.{below, all, any, member, distinct}
 use Rattle.search.specs.Sets.{without}
 use Rattle.bitset.specs.Bits.{bitSet}
-use Rattle.layout.specs.Layout.{isUnit, unitWords, trailerBytes, shapeOf, known, fitting, linkOf}
-use Rattle.layout.specs.Shaped.{mapOf}
+use Rattle.layout.specs.Layout.{firstEdition, isUnit, trailerBytes, shapeOf, known, fitting, linkOf}
+use Rattle.layout.specs.Shaped.{unitWordsOf}
 use Rattle.image.specs.declared.Verdict.{Verdict}
 use Rattle.image.specs.declared.Verdict.the-variants.{Passed}
 use Rattle.image.specs.Soundness.{leading, unitsOf}
@@ -19,7 +19,7 @@ use Rattle.image.specs.Loading.{unitSetWords, mapSetWords}
 
 -- no row of 1 to 6 holds: what the verdict tests, for each chunk
 pub record Tested (s : List ℕ) : Type 0 where
-  pub long : trailerBytes ≤ length s
+  pub long : trailerBytes firstEdition ≤ length s
   pub known : known s ≡ true
   pub fitting : fitting s ≡ true
   pub links : (i : ℕ) → i < shapeOf s .c → goodLink s i ≡ true
@@ -29,7 +29,7 @@ pub record Tested (s : List ℕ) : Type 0 where
 
 -- the units that map k holds
 abbrev pub heldIn : List ℕ → ℕ → List ℕ
-heldIn s k = let g = shapeOf s in leading (isUnit g) (unitWords g (mapOf s k))
+heldIn s k = leading (isUnit (shapeOf s)) (unitWordsOf s k)
 
 -- unit u is held by no chunk below j
 unfoldable pub unheld : List ℕ → ℕ → ℕ → Bool

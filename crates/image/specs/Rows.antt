@@ -8,7 +8,7 @@ use mathlib.Core.List.{List}
 use lib.ListN.{length}
 use Rattle.layout.specs.declared.Refusal.{Refusal}
 use Rattle.layout.specs.declared.Refusal.the-variants.{Short, Foreign, Geometry, BadLink, BadMap, Shared, Range, Size, NoRoom, Small, BadPlan, BadAlarm}
-use Rattle.layout.specs.Layout.{trailerBytes, shapeOf, known, fitting}
+use Rattle.layout.specs.Layout.{firstEdition, trailerBytes, shapeOf, known, fitting}
 use Rattle.image.specs.Verdicts.{goodLink, goodMap, clash, contested}
 
 -- i is the lowest of the numbers below n at which a test holds
@@ -17,7 +17,7 @@ LowestOf f n i = (i < n) × (f i ≡ true) × ((j : ℕ) → j < i → f j ≡ f
 
 -- none of rows 1 to 3 holds
 abbrev pub PastRow3 : List ℕ → Type 0
-PastRow3 s = (trailerBytes ≤ length s) × (known s ≡ true) × (fitting s ≡ true)
+PastRow3 s = (trailerBytes firstEdition ≤ length s) × (known s ≡ true) × (fitting s ≡ true)
 
 -- nor row 4
 abbrev pub PastRow4 : List ℕ → Type 0
@@ -30,14 +30,14 @@ PastRow5 s = PastRow4 s × ((i : ℕ) → i < shapeOf s .c → goodMap s i ≡ t
 -- the row of a refusal holds of an image, at the refusal's place, and none before it
 abbrev pub Row : List ℕ → Refusal → Type 0
 -- 1 "image under 32 bytes"
-Row s Short = length s < trailerBytes
--- 2 "first four trailer bytes or version wrong"
-Row s Foreign = (trailerBytes ≤ length s) × (known s ≡ false)
--- 3 "a limit broken, or a distance or length that disagrees"
-Row s Geometry = (trailerBytes ≤ length s) × (known s ≡ true) × (fitting s ≡ false)
+Row s Short = length s < trailerBytes firstEdition
+-- 2 "first four trailer bytes or version wrong"; of two editions "if neither has tag and version, 2"
+Row s Foreign = (trailerBytes firstEdition ≤ length s) × (known s ≡ false)
+-- 3 "a limit broken, or a distance or length that disagrees"; in edition 2 also "two u32 that must be 0, else 3"
+Row s Geometry = (trailerBytes firstEdition ≤ length s) × (known s ≡ true) × (fitting s ≡ false)
 -- 4 "entry neither X nor below M", "lowest such chunk"
 Row s (BadLink i) = PastRow3 s × LowestOf (λ j. not (goodLink s j)) (shapeOf s .c) i
--- 5 "a named map of the wrong form", "lowest such chunk"
+-- 5 "a named map of the wrong form", "lowest such chunk"; in edition 2 "k equal to the size rounded up in units; otherwise 5"
 Row s (BadMap i) = PastRow4 s × LowestOf (λ j. not (goodMap s j)) (shapeOf s .c) i
 -- 6 "a map or unit claimed twice": "the second chunk is the lowest that claims a map or unit of a lower chunk, or one unit twice. The first chunk is the
 -- lowest one it clashes with, or itself if none is lower."

@@ -7,7 +7,7 @@ use mathlib.Core.List.{List, [], _∷_}
 use lib.ListN.{length, getD, drop}
 use lib.Dec.{eqb}
 use Rattle.layout.specs.declared.Shape.{Shape}
-use Rattle.layout.specs.Layout.{X, isUnit, unitWords, linkOf, wordsOf, trailerStart, trailerOf, imageBytes, shapeOf}
+use Rattle.layout.specs.Layout.{X, unitsFor, isUnit, head, unitWords, linkOf, wordsOf, trailerStart, trailerOf, imageBytes, shapeOf}
 use Rattle.layout.specs.Shaped.{Limits}
 
 -- ---- what a chunk holds
@@ -42,7 +42,13 @@ pub record Form (f : ℕ → Bool) (k : ℕ) (ws : List ℕ) : Type 0 where
   pub units : (j : ℕ) → j < k → f (getD ws j 0) ≡ true
   pub rest : (j : ℕ) → k ≤ j → j < length ws → getD ws j 0 ≡ X
 
--- word a of the map that chunk i names is unit u
+-- "each named map holds 1 to P units below N, then only X"; in edition 2 "A sound map has k equal to the size rounded up in units": ws are the words of a
+-- map that holds k units
+pub record MapForm (g : Shape) (k : ℕ) (ws : List ℕ) : Type 0 where
+  pub units : Form (isUnit g) k (unitWords g ws)
+  pub size : 1 ≤ head g → unitsFor (getD ws 0 0) ≡ k
+
+-- of the map that chunk i names, word a of those that may name units is unit u
 pub record NamesUnit (g : Shape) (s : List ℕ) (i a u : ℕ) : Type 0 where
   pub chunk : i < g .c
   pub named : Named s i
@@ -52,14 +58,14 @@ pub record NamesUnit (g : Shape) (s : List ℕ) (i a u : ℕ) : Type 0 where
 
 -- s is a sound image of a volume of shape g
 pub record Sound (g : Shape) (s : List ℕ) : Type 0 where
-  -- "its last 32 bytes are such a trailer within the limits above, agreeing with its length"
+  -- "its last 32 bytes are such a trailer within the limits above, agreeing with its length"; in edition 2 its last 40
   pub limits : Limits g
   pub size : length s ≡ imageBytes g
   pub trailer : drop (trailerStart g) s ≡ trailerOf g
   -- "each logical entry is X or below M, and no two chunks name the same map"
   pub entries : (i : ℕ) → i < g .c → Named s i → linkOf s i < g .m
   pub maps : (i j : ℕ) → i < g .c → j < g .c → Named s i → linkOf s i ≡ linkOf s j → i ≡ j
-  -- "each named map holds 1 to P units below N, then only X"
-  pub forms : (i : ℕ) → i < g .c → Named s i → (k : ℕ) × Form (isUnit g) k (namedWords g s i)
+  -- "each named map holds 1 to P units below N, then only X"; in edition 2 "k equal to the size rounded up in units"
+  pub forms : (i : ℕ) → i < g .c → Named s i → (k : ℕ) × MapForm g k (wordsOf g s (linkOf s i))
   -- "no unit is named twice in named maps"
   pub units : (u i j a b : ℕ) → NamesUnit g s i a u → NamesUnit g s j b u → (i ≡ j) × (a ≡ b)

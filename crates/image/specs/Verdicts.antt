@@ -2,17 +2,18 @@
 use Prim.Native.Nat.{ℕ}
 use mathlib.Core.Bool.{Bool, not, _&&_, _||_, cond}
 use mathlib.Core.List.{List}
-use lib.ListN.{length, drop}
+use lib.ListN.{length, getD, drop}
 use lib.Dec.{eqb, ltb, leb}
 use Rattle.search.specs.Search.{below, all, any, distinct, disjoint, lowest}
-use Rattle.layout.specs.declared.Refusal.the-variants.{BadLink, BadMap, Shared}
+use Rattle.layout.specs.declared.Refusal.the-variants.{Foreign, BadLink, BadMap, Shared}
 use Rattle.layout.specs.declared.Trailer.{Trailer}
 use Rattle.layout.specs.declared.Trailer.the-variants.{Fits, Refused as TrailerRefused}
 use Rattle.layout.specs.Trailer.{trailerOutcome}
-use Rattle.layout.specs.Layout.{X, isUnit, shapeOf, linkOf}
+use Rattle.layout.specs.declared.Shape.{Shape}
+use Rattle.layout.specs.Layout.{X, firstEdition, unitsFor, isUnit, head, unitWords, wordsOf, trailerBytes, knownAs, shapeOf, linkOf}
 use Rattle.image.specs.declared.Verdict.{Verdict}
 use Rattle.image.specs.declared.Verdict.the-variants.{Refused, Passed}
-use Rattle.image.specs.Soundness.{leading, mapped, namedWords, unitsOf}
+use Rattle.image.specs.Soundness.{leading, mapped, unitsOf}
 
 -- ---- row 4: "entry neither X nor below M", "lowest such chunk"
 
@@ -29,8 +30,15 @@ badLink s = lowest (λ i. not (goodLink s i)) (shapeOf s .c)
 unfoldable pub wellFormed : (ℕ → Bool) → List ℕ → Bool
 wellFormed f ws = let k = length (leading f ws) in leb 1 k && all (eqb X) (drop k ws)
 
+-- "A sound map has k equal to the size rounded up in units": in edition 2, where word 0 is the size
+unfoldable pub sizeFits : Shape → ℕ → List ℕ → Bool
+sizeFits g k ws = eqb (head g) 0 || eqb (unitsFor (getD ws 0 0)) k
+
+unfoldable pub goodForm : Shape → List ℕ → Bool
+goodForm g ws = let us = unitWords g ws in wellFormed (isUnit g) us && sizeFits g (length (leading (isUnit g) us)) ws
+
 abbrev pub goodMap : List ℕ → ℕ → Bool
-goodMap s i = let g = shapeOf s in not (mapped s i) || wellFormed (isUnit g) (namedWords g s i)
+goodMap s i = let g = shapeOf s in not (mapped s i) || goodForm g (wordsOf g s (linkOf s i))
 
 unfoldable pub badMap : List ℕ → ℕ
 badMap s = lowest (λ i. not (goodMap s i)) (shapeOf s .c)
@@ -72,3 +80,11 @@ afterTrailer (TrailerRefused r) v = Refused r
 -- rows 1 to 6
 unfoldable pub verdict : List ℕ → Verdict
 verdict s = afterTrailer (trailerOutcome s) (chunkVerdict s)
+
+-- under 32 bytes, or read as edition 1: then 01's verdict is load's
+abbrev pub asFirst : List ℕ → Bool
+asFirst s = ltb (length s) (trailerBytes firstEdition) || knownAs firstEdition s
+
+-- 01's own verdict, of the last 32 bytes alone: what "Edition 1 code" gives. 2 is "first four trailer bytes or version wrong".
+unfoldable pub firstVerdict : List ℕ → Verdict
+firstVerdict s = cond (asFirst s) (verdict s) (Refused Foreign)

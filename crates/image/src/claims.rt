@@ -1,7 +1,7 @@
 // The scan for maps and units claimed twice, which also finds what is free.
 use crate::maps::held_count;
 use crate::maps::link;
-use crate::maps::map_word;
+use crate::maps::unit_word;
 use bitset::contains;
 use bitset::fill;
 use bitset::remove;
@@ -25,7 +25,7 @@ fn claim_units(image: &[u8], g: Shape, k: usize, count: usize, units: &mut [u64]
 {
     let mut j: usize = 0;
     while j < count {
-        let u = map_word(image, g, k, j);
+        let u = unit_word(image, g, k, j);
         if contains(units, u) {
             remove(units, u as usize);
             j += 1;

@@ -1,7 +1,7 @@
 // Which lower chunk a chunk that claims something twice clashes with. Only a refusal comes here.
 use crate::maps::held_count;
 use crate::maps::link;
-use crate::maps::map_word;
+use crate::maps::unit_word;
 use layout::ABSENT;
 use layout::Shape;
 ghost use mathlib.Core.Path.{_≡_};
@@ -21,7 +21,7 @@ fn holds(image: &[u8], g: Shape, k: usize, count: usize, u: u64) -> bool
 {
     let mut i: usize = 0;
     while i < count {
-        if u == map_word(image, g, k, i) {
+        if u == unit_word(image, g, k, i) {
             return true;
         }
         i += 1;
@@ -39,7 +39,7 @@ fn share_unit(image: &[u8], g: Shape, k: usize, h: usize) -> bool
     let end = held_count(image, g, h);
     let mut i: usize = 0;
     while i < end {
-        if holds(image, g, k, count, map_word(image, g, h, i)) {
+        if holds(image, g, k, count, unit_word(image, g, h, i)) {
             return true;
         }
         i += 1;

@@ -1,4 +1,6 @@
 // The volume image: soundness, load, and what is free.
+use layout::MAX_MAPS;
+use layout::MAX_UNITS;
 use layout::Refusal;
 use layout::Shape;
 
@@ -9,9 +11,9 @@ pub mod maps;
 pub mod scan;
 
 // The words of the sets of free units and of free maps, a bit for each.
-pub const UNIT_SET_WORDS: usize = 72;
+pub const UNIT_SET_WORDS: usize = (MAX_UNITS as usize + 63) / 64;
 
-pub const MAP_SET_WORDS: usize = 5;
+pub const MAP_SET_WORDS: usize = (MAX_MAPS as usize + 63) / 64;
 
 // Whether an image is sound, or the first refusal that holds of it.
 pub enum Verdict {

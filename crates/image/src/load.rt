@@ -26,6 +26,7 @@ fn refused(r: Refusal) -> Loaded
     Loaded {
         verdict: Verdict::Refused(r),
         shape: Shape {
+            edition: 0,
             p: 0,
             c: 0,
             m: 0,

@@ -2,6 +2,7 @@
 use crate::maps::absent_from;
 use crate::maps::held_count;
 use crate::maps::link;
+use crate::maps::size_fits;
 use layout::ABSENT;
 use layout::Shape;
 ghost use mathlib.Core.Path.{_≡_};
@@ -56,7 +57,10 @@ pub fn good_map(image: &[u8], g: Shape, i: usize) -> bool
     if h == 0 {
         return false;
     }
-    absent_from(image, g, k, h)
+    if !absent_from(image, g, k, h) {
+        return false;
+    }
+    size_fits(image, g, k, h)
 }
 
 // The lowest chunk whose named map has the wrong form, or C.

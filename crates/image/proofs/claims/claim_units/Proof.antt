@@ -9,19 +9,21 @@ use Rattle.search.specs.Search.{all, distinct}
 use Rattle.search.specs.Sets.{without}
 use Rattle.bitset.specs.Bits.{bitSet}
 use Rattle.image.specs.Claims.{heldIn}
-use Rattle.layout.specs.Shaped.{mapOf}
+use Rattle.layout.specs.Layout.{maxUnits}
+use Rattle.layout.specs.Shaped.{unitWordsOf}
 use Rattle.search.proofs.Taken.{rest, rest-start, without-none}
 use Rattle.image.proofs.Claiming.{take-more, take-stop, take-end}
 use Rattle.bitset.proofs.BitSets.{bitSet-ext}
 use Rattle.image.proofs.MapWords.{held-word}
 use Rattle.image.proofs.claims.claim_units.Statement.{statement}
+use Rattle.image.specs.Loading.{unitSetWords}
 use Rattle.image.proofs.claims.claim_units.Tie as tie
 
 abbrev Inv-loop : tie.InvT-loop
 Inv-loop image g k count units₀ j₀ units j =
     (j ≤ count) × (length units ≡ length units₀)
-    × ((f : ℕ → Bool) → units₀ ≡ bitSet f 72
-    → (units ≡ bitSet (without f (take j (heldIn image k))) 72)
+    × ((f : ℕ → Bool) → units₀ ≡ bitSet f unitSetWords
+    → (units ≡ bitSet (without f (take j (heldIn image k))) unitSetWords)
     × ((all f (heldIn image k) && distinct (heldIn image k)) ≡ rest f (heldIn image k) j))
 
 abbrev μ-loop : tie.MeasureT-loop
@@ -29,15 +31,15 @@ abbrev μ-loop : tie.MeasureT-loop
 
 -- word j of the units that map k holds: it is a word of the map, the unit, and below the size of the set
 unit-word : (a : tie.Start Inv-loop μ-loop) (j : ℕ) → j < a .args .count
-    → (j < a .args .g .p) × (getD (mapOf (a .args .image .now) (a .args .k)) j 0 ≡ getD (heldIn (a .args .image .now) (a .args .k)) j 0)
-    × (getD (mapOf (a .args .image .now) (a .args .k)) j 0 < 4608)
+    → (j < a .args .g .p) × (getD (unitWordsOf (a .args .image .now) (a .args .k)) j 0 ≡ getD (heldIn (a .args .image .now) (a .args .k)) j 0)
+    × (getD (unitWordsOf (a .args .image .now) (a .args .k)) j 0 < maxUnits)
 unit-word a j h = held-word (a .args .image .now) (a .args .g) (a .args .k) j (a .pre .0) (a .pre .1 .0) (omega arith)
 
 loop-holds : tie.Need-loop-holds Inv-loop μ-loop
-loop-holds c = (search needs, refl, λ f e. (e ∙ bitSet-ext _ _ 72 (λ y h. without-none f y), rest-start f _))
+loop-holds c = (search needs, refl, λ f e. (e ∙ bitSet-ext _ _ unitSetWords (λ y h. without-none f y), rest-start f _))
 
-map-word-requires : tie.Need-map-word-requires Inv-loop μ-loop
-map-word-requires c κs =
+unit-word-requires : tie.Need-unit-word-requires Inv-loop μ-loop
+unit-word-requires c κs =
     let a = c .before .before .before .before in
     (a .pre .0, (a .pre .1 .0, unit-word a (c .before .loop .j) (omega arith) .0))
 
@@ -55,14 +57,16 @@ loop-less c = search needs
 
 loop-again : tie.Need-loop-again Inv-loop μ-loop
 loop-again c =
-    let l = c .before .before .before .before .before .before .before .before .before .loop in
-    let a = c .before .before .before .before .before .before .before .before .before .before .before .before in
+    let tested = c .before .before .before .before .before in
+    let l = tested .before .before .before .before .loop in
+    let a = tested .before .before .before .before .before .before .before in
+    let us = heldIn (a .args .image .now) (a .args .k) in
     let u = unit-word a (l .j) (omega arith) in (
       omega arith,
       c .before .before .remove .kept .0 ∙ l .inv .1,
       λ f e.
-          take-more f (heldIn (a .args .image .now) (a .args .k)) (l .j) _ (c .before .before .before .before .before .before .before .map-word .ensures ∙ u .1) (omega arith) (l .units) (l .inv .2 f e .0) (l .inv .2 f e .1) _
-          (omega (arith, u .1, u .2)) (c .before .before .before .before .before .contains .ensures) _ (c .before .before .remove .ensures) (c .before .before .before .before .if1 .taken),
+          take-more f us (l .j) _ (tested .before .before .unit-word .ensures ∙ u .1) (omega arith) (l .units) (l .inv .2 f e .0) (l .inv .2 f e .1) _
+          (omega (arith, u .1, u .2)) (tested .contains .ensures) _ (c .before .before .remove .ensures) (c .before .before .before .before .if1 .taken),
     )
 
 same-length : tie.Need-same-length Inv-loop μ-loop
@@ -72,8 +76,9 @@ returns : tie.Need-returns Inv-loop μ-loop
 returns c f e =
     let l = c .before .before .before .before .before .loop in
     let a = c .before .before .before .before .before .before .before .before in
+    let us = heldIn (a .args .image .now) (a .args .k) in
     let u = unit-word a (l .j) (omega arith) in
-    take-stop f (heldIn (a .args .image .now) (a .args .k)) (l .j) _ (c .before .before .before .map-word .ensures ∙ u .1) (omega arith) (l .units) (l .inv .2 f e .0) (l .inv .2 f e .1) _
+    take-stop f us (l .j) _ (c .before .before .before .unit-word .ensures ∙ u .1) (omega arith) (l .units) (l .inv .2 f e .0) (l .inv .2 f e .1) _
     (omega (arith, u .1, u .2)) (c .before .contains .ensures) (c .if1 .left)
 
 same-length-2 : tie.Need-same-length-2 Inv-loop μ-loop
@@ -92,7 +97,7 @@ claim-units-spec =
     Inv-loop
     μ-loop
     loop-holds
-    map-word-requires
+    unit-word-requires
     contains-requires
     remove-requires
     add-j

@@ -24,8 +24,8 @@ loop-holds : tie.Need-loop-holds Inv-loop μ-loop
 unfolding member
 loop-holds c = (search needs, refl)
 
-map-word-requires : tie.Need-map-word-requires Inv-loop μ-loop
-map-word-requires c κs =
+unit-word-requires : tie.Need-unit-word-requires Inv-loop μ-loop
+unit-word-requires c κs =
     let a = c .before .before .before in
     (a .pre .0, (a .pre .1 .0, held-word (a .args .image .now) (a .args .g) (a .args .k) (c .before .loop .i) (a .pre .0) (a .pre .1 .0) (omega arith) .0))
 
@@ -35,7 +35,8 @@ returns c =
     let l = c .before .before .before .loop in
     let us = heldIn (a .args .image .now) (a .args .k) in
     let w = held-word (a .args .image .now) (a .args .g) (a .args .k) (l .i) (a .pre .0) (a .pre .1 .0) (omega arith) in
-    sym (l .inv .1 ∙ any-stop (eqb (a .args .u)) us (l .i) (omega arith) (eq-eqb (a .args .u) (getD us (l .i) 0) (c .if1 .taken ∙ c .before .map-word .ensures ∙ w .1)))
+    let same = eq-eqb (a .args .u) (getD us (l .i) 0) (c .if1 .taken ∙ c .before .unit-word .ensures ∙ w .1) in
+    sym (l .inv .1 ∙ any-stop (eqb (a .args .u)) us (l .i) (omega arith) same)
 
 add-i : tie.Need-add-i Inv-loop μ-loop
 add-i c = search needs
@@ -51,7 +52,7 @@ loop-again c =
     let w = held-word (a .args .image .now) (a .args .g) (a .args .k) (l .i) (a .pre .0) (a .pre .1 .0) (omega arith) in (
       omega arith,
       l .inv .1 ∙ any-more (eqb (a .args .u)) us (l .i) (omega arith)
-          (ne-eqb (a .args .u) (getD us (l .i) 0) (λ e. c .if1 .left (e ∙ sym (c .before .map-word .ensures ∙ w .1)))),
+          (ne-eqb (a .args .u) (getD us (l .i) 0) (λ e. c .if1 .left (e ∙ sym (c .before .unit-word .ensures ∙ w .1)))),
     )
 
 returns-2 : tie.Need-returns-2 Inv-loop μ-loop
@@ -67,7 +68,7 @@ holds-spec =
     Inv-loop
     μ-loop
     loop-holds
-    map-word-requires
+    unit-word-requires
     returns
     add-i
     loop-less

@@ -29,8 +29,8 @@ held-count-requires-2 c κs = search needs
 loop-holds : tie.Need-loop-holds Inv-loop μ-loop
 loop-holds c = (search needs, meets _ _)
 
-map-word-requires : tie.Need-map-word-requires Inv-loop μ-loop
-map-word-requires c κs =
+unit-word-requires : tie.Need-unit-word-requires Inv-loop μ-loop
+unit-word-requires c κs =
     let a = c .before .before .before .before .before in
     let e = c .before .before .held-count2 .ensures in
     (a .pre .0, (a .pre .1 .1, held-word (a .args .image .now) (a .args .g) (a .args .h) (c .before .loop .i) (a .pre .0) (a .pre .1 .1) (omega arith) .0))
@@ -48,7 +48,8 @@ returns c =
     let e = c .before .before .before .before .before .held-count2 .ensures in
     let w = held-word s (a .args .g) (a .args .h) (l .i) (a .pre .0) (a .pre .1 .1) (omega arith) in
     let f : ℕ → Bool = λ y. member y (heldIn s (a .args .k)) in
-    sym (l .inv .1 ∙ any-stop f (heldIn s (a .args .h)) (l .i) (omega arith) (ap f (sym (c .before .before .map-word .ensures ∙ w .1)) ∙ sym (c .before .holds .ensures) ∙ c .if1 .taken))
+    let found = ap f (sym (c .before .before .unit-word .ensures ∙ w .1)) ∙ sym (c .before .holds .ensures) ∙ c .if1 .taken in
+    sym (l .inv .1 ∙ any-stop f (heldIn s (a .args .h)) (l .i) (omega arith) found)
 
 add-i : tie.Need-add-i Inv-loop μ-loop
 add-i c = search needs
@@ -63,10 +64,9 @@ loop-again c =
     let l = c .before .before .before .before .loop in
     let e = c .before .before .before .before .before .held-count2 .ensures in
     let w = held-word s (a .args .g) (a .args .h) (l .i) (a .pre .0) (a .pre .1 .1) (omega arith) in
-    let f : ℕ → Bool = λ y. member y (heldIn s (a .args .k)) in (
-      omega arith,
-      l .inv .1 ∙ any-more f (heldIn s (a .args .h)) (l .i) (omega arith) (ap f (sym (c .before .before .map-word .ensures ∙ w .1)) ∙ sym (c .before .holds .ensures) ∙ c .if1 .left),
-    )
+    let f : ℕ → Bool = λ y. member y (heldIn s (a .args .k)) in
+    let other = ap f (sym (c .before .before .unit-word .ensures ∙ w .1)) ∙ sym (c .before .holds .ensures) ∙ c .if1 .left in
+    (omega arith, l .inv .1 ∙ any-more f (heldIn s (a .args .h)) (l .i) (omega arith) other)
 
 returns-2 : tie.Need-returns-2 Inv-loop μ-loop
 returns-2 c =
@@ -85,7 +85,7 @@ share-unit-spec =
     held-count-requires
     held-count-requires-2
     loop-holds
-    map-word-requires
+    unit-word-requires
     holds-requires
     returns
     add-i

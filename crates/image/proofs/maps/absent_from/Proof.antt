@@ -8,15 +8,15 @@ use lib.Dec.{eqb}
 use borrow.Author.Tests.{eq-eqb, ne-eqb}
 use Rattle.search.specs.Search.{all}
 use Rattle.layout.specs.Layout.{X}
-use Rattle.layout.specs.Shaped.{mapOf}
-use Rattle.image.proofs.MapWords.{length-mapOf}
+use Rattle.layout.specs.Shaped.{unitWordsOf}
+use Rattle.image.proofs.MapWords.{length-unitsIn}
 use Rattle.search.proofs.Members.{all-more, all-stop, all-end}
 use Rattle.image.proofs.maps.absent_from.Statement.{statement}
 use Rattle.image.proofs.maps.absent_from.Tie as tie
 
 abbrev Inv-loop : tie.InvT-loop
 Inv-loop image g k start p j₀ j =
-    (j ≤ p) × (all (eqb X) (drop start (mapOf image k)) ≡ all (eqb X) (drop j (mapOf image k)))
+    (j ≤ p) × (all (eqb X) (drop start (unitWordsOf image k)) ≡ all (eqb X) (drop j (unitWordsOf image k)))
 
 abbrev μ-loop : tie.MeasureT-loop
 μ-loop image g k start p j₀ j = p - j
@@ -27,8 +27,8 @@ cast-p c = search needs
 loop-holds : tie.Need-loop-holds Inv-loop μ-loop
 loop-holds c = search needs
 
-map-word-requires : tie.Need-map-word-requires Inv-loop μ-loop
-map-word-requires c κs = search needs
+unit-word-requires : tie.Need-unit-word-requires Inv-loop μ-loop
+unit-word-requires c κs = search needs
 
 returns : tie.Need-returns Inv-loop μ-loop
 returns c =
@@ -36,9 +36,10 @@ returns c =
     let s = a .args .image .now in
     let k = a .args .k in
     let j = c .before .before .before .loop .j in
-    let w = c .before .map-word .ensures in
-    let l = length-mapOf s (a .args .g) k (a .pre .0) in
-    sym (c .before .before .before .loop .inv .1 ∙ all-stop (eqb X) (mapOf s k) j (omega arith) (ne-eqb X (getD (mapOf s k) j 0) (λ e. c .if1 .taken (omega arith))))
+    let w = c .before .unit-word .ensures in
+    let l = length-unitsIn s (a .args .g) k (a .pre .0) in
+    let other = ne-eqb X (getD (unitWordsOf s k) j 0) (λ e. c .if1 .taken (omega arith)) in
+    sym (c .before .before .before .loop .inv .1 ∙ all-stop (eqb X) (unitWordsOf s k) j (omega arith) other)
 
 add-j : tie.Need-add-j Inv-loop μ-loop
 add-j c = search needs
@@ -52,17 +53,18 @@ loop-again c =
     let s = a .args .image .now in
     let k = a .args .k in
     let j = c .before .before .before .loop .j in
-    let w = c .before .map-word .ensures in
-    let l = length-mapOf s (a .args .g) k (a .pre .0) in
-    (omega arith, c .before .before .before .loop .inv .1 ∙ all-more (eqb X) (mapOf s k) j (omega arith) (eq-eqb X (getD (mapOf s k) j 0) (omega arith)))
+    let w = c .before .unit-word .ensures in
+    let l = length-unitsIn s (a .args .g) k (a .pre .0) in
+    let same = eq-eqb X (getD (unitWordsOf s k) j 0) (omega arith) in
+    (omega arith, c .before .before .before .loop .inv .1 ∙ all-more (eqb X) (unitWordsOf s k) j (omega arith) same)
 
 returns-2 : tie.Need-returns-2 Inv-loop μ-loop
 returns-2 c =
     let a = c .before .before .before .before in
     let s = a .args .image .now in
     let k = a .args .k in
-    let l = length-mapOf s (a .args .g) k (a .pre .0) in
-    sym (c .before .loop .inv .1 ∙ all-end (eqb X) (mapOf s k) (c .before .loop .j) (omega arith))
+    let l = length-unitsIn s (a .args .g) k (a .pre .0) in
+    sym (c .before .loop .inv .1 ∙ all-end (eqb X) (unitWordsOf s k) (c .before .loop .j) (omega arith))
 
 pub absent-from-spec : {M : Type 1} → statement M
 absent-from-spec =
@@ -72,7 +74,7 @@ absent-from-spec =
     μ-loop
     cast-p
     loop-holds
-    map-word-requires
+    unit-word-requires
     returns
     add-j
     loop-less
