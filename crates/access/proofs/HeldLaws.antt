@@ -12,9 +12,9 @@ use borrow.Author.Tests.{ltb-true}
 use Rattle.words.specs.Words.{number}
 use Rattle.words.proofs.Laws.{number-ext}
 use Rattle.layout.specs.declared.Refusal.the-variants.{Range}
-use Rattle.layout.specs.Layout.{isUnit, unitWords, shapeOf, linkOf, mapWordPlace}
-use Rattle.layout.specs.Shaped.{mapOf}
-use Rattle.layout.proofs.Limits.{fitting-length, map-within}
+use Rattle.layout.specs.Layout.{isUnit, head, mapWords, shapeOf, linkOf, mapWordPlace}
+use Rattle.layout.specs.Shaped.{unitWordsOf}
+use Rattle.layout.proofs.Limits.{fitting-length, map-within, map-words}
 use Rattle.image.specs.declared.Verdict.{Verdict}
 use Rattle.image.specs.declared.Verdict.the-variants.{Passed, Refused as Unsound}
 use Rattle.image.specs.Soundness.{mapped, unitsOf, leading}
@@ -23,7 +23,7 @@ use Rattle.image.specs.Claims.{Tested}
 use Rattle.image.specs.Answers.{ifSound}
 use Rattle.image.proofs.SoundLaws.{passed-tested}
 use Rattle.image.proofs.Leading.{leading-at}
-use Rattle.image.proofs.Chunks.{getD-wordsOf, mapped-named, named-below, units-mapped, length-units}
+use Rattle.image.proofs.Chunks.{getD-unitWords, mapped-named, named-below, units-mapped, length-units}
 use Rattle.access.specs.declared.Status.the-variants.{Answered, Refused as Denied}
 use Rattle.access.specs.Parts.{heldStatus, heldWords, part, heldPart}
 use Rattle.access.specs.Holding.{Holds}
@@ -50,7 +50,7 @@ answered s i e = at (verdict s) refl e
 
 module _ (s : List ℕ) (i : ℕ) (e : heldStatus s i ≡ Answered) (m : mapped s i ≡ true) where
   abbrev start : ℕ
-  start = 8 * mapWordPlace (shapeOf s) (linkOf s i) 0
+  start = 8 * mapWordPlace (shapeOf s) (linkOf s i) (head (shapeOf s))
 
   abbrev size : ℕ
   size = 8 * length (unitsOf s i)
@@ -63,17 +63,17 @@ module _ (s : List ℕ) (i : ℕ) (e : heldStatus s i ≡ Answered) (m : mapped 
   mapped-within =
       let z = answered s i e in
       let k = named-below s i (mapped-named s i m) (z .0 .links i (z .1)) in
-      omega (arith, fitting-length s (z .0 .fitting), length-units s i, map-within (linkOf s i) (shapeOf s .m) (shapeOf s .p) k)
+      omega (arith, fitting-length s (z .0 .fitting), length-units s i, map-within (linkOf s i) (shapeOf s .m) (mapWords (shapeOf s)) k, map-words (shapeOf s))
 
   mapped-word : (j : ℕ) → j < length (unitsOf s i) → number 8 (take size (drop start s)) (8 * j) ≡ getD (unitsOf s i) j 0
   mapped-word j h =
       let g = shapeOf s in
-      let ws = unitWords g (mapOf s (linkOf s i)) in
+      let ws = unitWordsOf s (linkOf s i) in
       let u = units-mapped s i m in
       let l : j < length (leading (isUnit g) ws) = let q = ap length u in omega arith in
-      let place : start + 8 * j ≡ 8 * mapWordPlace g (linkOf s i) j = omega arith in
+      let place : start + 8 * j ≡ 8 * mapWordPlace g (linkOf s i) (head g + j) = omega arith in
       number-part 8 s start size (8 * j) (omega arith) ∙ ap (number 8 s) place
-      ∙ sym (getD-wordsOf g s (linkOf s i) j (omega (arith, length-units s i)))
+      ∙ sym (getD-unitWords g s (linkOf s i) j (omega (arith, length-units s i)))
       ∙ sym (leading-at (isUnit g) ws j l .0)
       ∙ ap (λ (us : List ℕ). getD us j 0) (sym u)
 

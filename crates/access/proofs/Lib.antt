@@ -4,5 +4,6 @@ pub mod AnswerLaws
 pub mod PartLaws
 pub mod TilingLaws
 pub mod HeldLaws
+pub mod SizeLaws
 pub mod Cases
 pub mod Theorems

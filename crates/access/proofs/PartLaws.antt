@@ -4,22 +4,22 @@ use mathlib.Core.Path.{_≡_, ap, _∙_}
 use mathlib.Core.Bool.{true, false}
 use mathlib.Core.List.{List}
 use native.Mathlib.Omega.{arith}
-use native.Mathlib.Nat.{add-zero}
 use lib.ListN.{length}
 use borrow.Author.Tests.{lt-ltb, le-ltb}
 use Rattle.layout.specs.declared.Shape.{Shape}
 use Rattle.layout.specs.declared.Refusal.{Refusal}
 use Rattle.layout.specs.declared.Refusal.the-variants.{Range}
-use Rattle.layout.specs.Layout.{X, isUnit, unitWords, shapeOf, linkOf}
-use Rattle.layout.specs.Shaped.{Shaped, mapOf}
+use Rattle.layout.specs.Layout.{X, maxImageBytes, isUnit, head, mapWords, mapWordPlace, shapeOf, linkOf}
+use Rattle.layout.specs.Shaped.{Shaped, unitWordsOf}
+use Rattle.layout.proofs.Limits.{map-words, map-within, image-high}
 use Rattle.image.specs.declared.Verdict.the-variants.{Refused}
 use Rattle.image.specs.declared.Loaded.{Loaded}
 use Rattle.image.specs.Soundness.{mapped}
 use Rattle.image.specs.Verdicts.{goodLink, verdict}
 use Rattle.image.specs.Claims.{heldIn}
 use Rattle.image.proofs.Leading.{length-leading}
-use Rattle.image.proofs.Chunks.{is-mapped, named-below, units-named}
-use Rattle.image.proofs.MapWords.{in-maps, length-mapOf}
+use Rattle.image.proofs.Chunks.{is-mapped, map-named, units-named}
+use Rattle.image.proofs.MapWords.{length-unitsIn}
 use Rattle.image.proofs.Loads.{Known}
 use Rattle.access.specs.declared.Extent.{Extent}
 use Rattle.access.specs.declared.Status.the-variants.{Answered, Refused as Denied}
@@ -31,29 +31,21 @@ pub words-absent : (s : List ℕ) (i : ℕ) → mapped s i ≡ false → emptyEx
 unfolding heldWords
 words-absent s i m = rw m
 
--- the first k words of map w stand within the image, which is short
-abbrev pub Within : List ℕ → Shape → ℕ → ℕ → Type 0
-Within s g w k = (8 * (g .c + w * g .p) + 8 * k ≤ length s) × (length s ≤ 38944)
-
 -- its entry is w, and names a map
 module _ (s : List ℕ) (g : Shape) (i w : ℕ) (h : Shaped s g) (ew : w ≡ linkOf s i) (hw : w ≡ X → ⊥) (good : goodLink s i ≡ true) where
-  pub map-named : w < g .m
-  map-named =
-      let m = ap (λ (g : Shape). g .m) (h .same) in
-      omega (arith, named-below s i (λ e. hw (ew ∙ e)) good)
-
-  -- its map holds k units
-  module _ (k : ℕ) (ek : k ≡ length (heldIn s w)) where
-    pub words-within : Within s g w k
+  -- its map holds k units, and `at` is the first word that names one
+  module _ (k first at : ℕ) (ek : k ≡ length (heldIn s w)) (ef : first ≡ head g) (ea : at ≡ mapWordPlace g w first) where
+    pub words-within : (8 * at + 8 * k ≤ length s) × (length s ≤ maxImageBytes)
     words-within =
-        let b = in-maps s g w h map-named in
-        let a = length-leading (isUnit (shapeOf s)) (unitWords (shapeOf s) (mapOf s w)) in
-        let n = length-mapOf s g w h in
-        (omega (arith, h .size), omega (arith, h .size))
+        let b = map-within w (g .m) (mapWords g) (map-named s g i w h ew hw good) in
+        let a = length-leading (isUnit (shapeOf s)) (unitWordsOf s w) in
+        let n = length-unitsIn s g w h in
+        let q = map-words g in
+        (omega (arith, h .size), omega (arith, image-high g (h .limits), h .size))
 
-    pub words-named : _≡_ {A = Extent} (record { start = 8 * (g .c + w * g .p); end = 8 * (g .c + w * g .p) + 8 * k }) (heldWords s i)
+    pub words-named : _≡_ {A = Extent} (record { start = 8 * at; end = 8 * at + 8 * k }) (heldWords s i)
     unfolding heldWords
-    words-named = rw (is-mapped s i (λ e. hw (ew ∙ e)), units-named s i (λ e. hw (ew ∙ e)), add-zero, ek, ew, h .same)
+    words-named = rw (is-mapped s i (λ e. hw (ew ∙ e)), units-named s i (λ e. hw (ew ∙ e)), ek, ea, ef, ew, h .same)
 
 -- ---- the answers on chunk i of an image that load has refused, and of one that it has passed
 

@@ -8,12 +8,13 @@ use lib.Dec.{leb}
 use borrow.Author.Tests.{leb-true, lt-leb, le-leb, eq-eqb, ne-eqb}
 use Rattle.search.proofs.Bools.{and-left, and-right, same}
 use Rattle.layout.specs.declared.Shape.{Shape}
+use Rattle.layout.specs.Layout.{maxChunks, maxChunkBytes, maxVolumeBytes}
 use Rattle.layout.specs.Shaped.{Limits}
 use Rattle.access.specs.Ranges.{chunkBytes, volumeBytes, goodRange, firstChunk, lastChunk}
 
 -- a volume is small
-volume-small : (g : Shape) → Limits g → volumeBytes g ≤ 16777216
-volume-small g l = mul-le-mul {n₁ = g .c} {m₁ = chunkBytes g} {n₂ = 256} {m₂ = 65536} (l .c-high) (omega arith)
+volume-small : (g : Shape) → Limits g → volumeBytes g ≤ maxVolumeBytes
+volume-small g l = mul-le-mul {n₁ = g .c} {m₁ = chunkBytes g} {n₂ = maxChunks} {m₂ = maxChunkBytes} (l .c-high) (omega arith)
 
 -- ---- each test of a range, in order; `total` is the code's number for the bytes of the volume
 
@@ -50,7 +51,7 @@ module _ (g : Shape) (offset span : ℕ) where
 
 pub record Good (g : Shape) (b offset span : ℕ) : Type 0 where
   pub some : 1 ≤ span
-  pub high : offset + span ≤ 16777216
+  pub high : offset + span ≤ maxVolumeBytes
   pub rising : firstChunk b offset ≤ lastChunk b (offset + span)
   pub last : lastChunk b (offset + span) < g .c
 

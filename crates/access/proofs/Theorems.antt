@@ -9,12 +9,12 @@ use native.Mathlib.Nat.{div-mul-le-self, lt-div-mul-add, not-suc-le-zero}
 use lib.ListN.{length}
 use lib.Dec.{eqb, ltb}
 use lib.Arith.{digits-div}
-use borrow.Author.Tests.{eqb-true, eq-eqb}
+use borrow.Author.Tests.{eqb-true, eq-eqb, ltb-true}
 use Rattle.search.proofs.Bools.{and-right, either, same}
 use Rattle.layout.specs.declared.Shape.{Shape}
 use Rattle.layout.specs.declared.Refusal.{Refusal}
 use Rattle.layout.specs.declared.Refusal.the-variants.{Range, Small}
-use Rattle.layout.specs.Layout.{shapeOf}
+use Rattle.layout.specs.Layout.{unitsFor, shapeOf}
 use Rattle.layout.specs.Shaped.{Limits}
 use Rattle.layout.proofs.Limits.{fitting-limits}
 use Rattle.image.specs.declared.Verdict.{Verdict}
@@ -22,8 +22,9 @@ use Rattle.image.specs.declared.Verdict.the-variants.{Passed, Refused as Unsoun
 use Rattle.image.specs.Soundness.{mapped, unitsOf}
 use Rattle.image.specs.Verdicts.{verdict}
 use Rattle.image.specs.Answers.{ifSound}
+use Rattle.image.specs.Stored.{storedSize}
 use Rattle.image.proofs.SoundLaws.{passed-tested}
-use Rattle.image.proofs.Chunks.{units-unmapped, units-some}
+use Rattle.image.proofs.Chunks.{mapped-named, units-unmapped, units-some}
 use Rattle.access.specs.declared.Piece.{Piece}
 use Rattle.access.specs.declared.Split.the-variants.{Pieces, Refused as NotSplit}
 use Rattle.access.specs.declared.Extent.{Extent}
@@ -31,6 +32,9 @@ use Rattle.access.specs.declared.Status.{Status}
 use Rattle.access.specs.declared.Status.the-variants.{Answered, Refused as NotHeld}
 use Rattle.access.specs.Ranges.{chunkBytes, goodRange, firstChunk, lastChunk, pieces, piecesOf, pieceBytes, splitIn, splitAnswer, goodPiece}
 use Rattle.access.specs.Parts.{heldStatus, emptyExtent, heldWords, ifAnswered, part, heldPart}
+use Rattle.image.proofs.Storing.{stored-unmapped, size-of-units}
+use Rattle.access.specs.declared.Stored.the-variants.{Size, Refused as NotStored}
+use Rattle.access.specs.Sizes.{sizeAnswer}
 use Rattle.access.specs.Tiling.{Tiles, Tiled}
 use Rattle.access.specs.Holding.{Holds}
 use Rattle.access.proofs.RangeLaws.{good}
@@ -122,3 +126,32 @@ pub held-some : (s : List ℕ) (i : ℕ) → heldStatus s i ≡ Answered → map
 held-some s i e m =
     let z = answered s i e in
     omega (arith, mapped-holds s i e m .size, units-some s (z .0) i (z .1) m)
+
+-- ---- "a call answers a chunk's stored size"
+
+-- Whenever it answers, the image is sound and the chunk is one of its chunks; an unmapped one has 0, and a mapped one a size of just the units that it holds.
+pub record Stores (s : List ℕ) (i n : ℕ) : Type 0 where
+  pub sound : verdict s ≡ Passed
+  pub chunk : i < shapeOf s .c
+  pub size : n ≡ storedSize s i
+  pub none : mapped s i ≡ false → n ≡ 0
+  pub units : mapped s i ≡ true → unitsFor n ≡ length (unitsOf s i)
+
+pub size-stores : (s : List ℕ) (i n : ℕ) → sizeAnswer s i ≡ Size n → Stores s i n
+size-stores s i n e = at (verdict s) refl e
+  where
+    found : (b : Bool) → ltb i (shapeOf s .c) ≡ b → cond b (Size (storedSize s i)) (NotStored Range) ≡ Size n → (i < shapeOf s .c) × (n ≡ storedSize s i)
+    found true l h = (ltb-true i (shapeOf s .c) l, cc)
+    found false l h = let z : _≡_ {A = ℕ} 0 1 = cc in absurd (omega arith)
+
+    at : (v : Verdict) → verdict s ≡ v → ifSound v NotStored (cond (ltb i (shapeOf s .c)) (Size (storedSize s i)) (NotStored Range)) ≡ Size n → Stores s i n
+    at (Unsound r) p h = let z : _≡_ {A = ℕ} 0 1 = cc in absurd (omega arith)
+    at Passed p h =
+        let f = found (ltb i (shapeOf s .c)) refl h in
+        record {
+          sound = p;
+          chunk = f .0;
+          size = f .1;
+          none = λ m. f .1 ∙ stored-unmapped s i m;
+          units = λ m. ap unitsFor (f .1) ∙ size-of-units s (passed-tested s p) i (f .0) (mapped-named s i m);
+        }

@@ -5,7 +5,7 @@ use mathlib.Core.List.{List}
 use lib.ListN.{length, take, drop}
 use lib.Dec.{ltb}
 use Rattle.layout.specs.declared.Refusal.the-variants.{Range}
-use Rattle.layout.specs.Layout.{shapeOf, linkOf, mapWordPlace}
+use Rattle.layout.specs.Layout.{head, shapeOf, linkOf, mapWordPlace}
 use Rattle.image.specs.Soundness.{mapped, unitsOf}
 use Rattle.image.specs.Verdicts.{verdict}
 use Rattle.image.specs.Answers.{ifSound}
@@ -22,11 +22,11 @@ heldStatus s i = ifSound (verdict s) Denied (cond (ltb i (shapeOf s .c)) Answere
 abbrev pub emptyExtent : Extent
 emptyExtent = record { start = 0; end = 0 }
 
--- "The held words of a chunk's map": where its k unit words stand, 8·k bytes from word 0 of the map on. They are not the whole map: the words of X
--- after them are no part of it.
+-- "The held words of a chunk's map": where its k unit words stand, 8·k bytes from its first unit word on. They are not the whole map: in edition 2 the size
+-- before them is no part of it ("The words handed back are still the units"), nor are the words of X after them.
 unfoldable pub heldWords : List ℕ → ℕ → Extent
 heldWords s i =
-    let start = 8 * mapWordPlace (shapeOf s) (linkOf s i) 0 in
+    let start = 8 * mapWordPlace (shapeOf s) (linkOf s i) (head (shapeOf s)) in
     cond (mapped s i) (record { start = start; end = start + 8 * length (unitsOf s i) }) emptyExtent
 
 -- "for an unmapped chunk or a refusal the part is empty"

@@ -1,6 +1,7 @@
-// Byte ranges of a volume: the pieces that they split into, what a piece reads first, and the held words of a chunk.
+// Byte ranges of a volume: the pieces that they split into, what a piece reads first, and the held words and the stored size of a chunk.
 pub mod parts;
 pub mod ranges;
+pub mod sizes;
 
 use layout::Refusal;
 
@@ -44,4 +45,10 @@ pub struct Extent {
 pub struct Held {
     pub status: Status,
     pub extent: Extent,
+}
+
+// A chunk's stored size, or why it is not told.
+pub enum Stored {
+    Size(u64),
+    Refused(Refusal),
 }

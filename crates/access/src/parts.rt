@@ -8,6 +8,8 @@ use image::maps::link;
 use layout::ABSENT;
 use layout::Refusal;
 use layout::Shape;
+use layout::geometry::head;
+use layout::geometry::map_word_place;
 ghost use mathlib.Core.Path.{_≡_};
 ghost use mathlib.Core.Bool.{true};
 ghost use Prim.Native.Nat.{_<_, _≤_};
@@ -28,9 +30,7 @@ fn held_words(image: &[u8], g: Shape, i: usize) -> Extent
     }
     let k = w as usize;
     let units = image::maps::held_count(image, g, k);
-    let c = g.c as usize;
-    let p = g.p as usize;
-    let start = 8 * (c + k * p);
+    let start = 8 * map_word_place(g, k, head(g) as usize);
     let end = start + 8 * units;
     Extent { start, end }
 }

@@ -14,15 +14,16 @@ ghost use mathlib.Core.Path.{_≡_};
 ghost use Prim.Native.Nat.{_+_, _*_, _<_, _≤_, min, max};
 ghost use lib.ListN.{length};
 ghost use lib.Seq.{sets};
+ghost use Rattle.layout.specs.Layout.{maxChunks, maxChunkBytes, maxVolumeBytes};
 ghost use Rattle.layout.specs.Shaped.{Limits, Shaped};
 ghost use Rattle.image.specs.Soundness.{mapped};
 ghost use Rattle.access.specs.Ranges;
-ghost use Rattle.access.specs.Ranges.{chunkBytes, volumeBytes, goodRange, firstChunk, pieceCount, pieceOf, pieces, piecesOf, encode, encodeAll, splitIn, written, splitAnswer, splitOut, readsFirst, accessAnswer};
+ghost use Rattle.access.specs.Ranges.{pieceBytes, chunkBytes, volumeBytes, goodRange, firstChunk, pieceCount, pieceOf, pieces, piecesOf, encode, encodeAll, splitIn, written, splitAnswer, splitOut, readsFirst, accessAnswer};
 
 // The bytes of a chunk.
 fn chunk_bytes(g: Shape) -> u64
     requires { ⌜ Limits g ⌝ }
-    ensures { λ r. ⌜ (r ≡ chunkBytes g) × (1 ≤ r) × (r ≤ 65536) ⌝ }
+    ensures { λ r. ⌜ (r ≡ chunkBytes g) × (1 ≤ r) × (r ≤ maxChunkBytes) ⌝ }
 {
     g.p as u64 * UNIT_BYTES
 }
@@ -30,7 +31,7 @@ fn chunk_bytes(g: Shape) -> u64
 // The bytes of a volume.
 fn volume_bytes(g: Shape) -> u64
     requires { ⌜ Limits g ⌝ }
-    ensures { λ r. ⌜ (r ≡ volumeBytes g) × (r ≤ 16777216) ⌝ }
+    ensures { λ r. ⌜ (r ≡ volumeBytes g) × (r ≤ maxVolumeBytes) ⌝ }
 {
     g.c as u64 * chunk_bytes(g)
 }
@@ -76,7 +77,7 @@ fn smaller(x: u64, y: u64) -> u64
 
 // What of the bytes from lo up to hi lies in chunk i, of b bytes.
 fn piece_of(b: u64, lo: u64, hi: u64, i: u64) -> Piece
-    requires { ⌜ (hi ≤ 16777216) × (b ≤ 65536) × (lo ≤ hi) × (i * b ≤ hi) × (lo ≤ i * b + b) × (i < 256) ⌝ }
+    requires { ⌜ (hi ≤ maxVolumeBytes) × (b ≤ maxChunkBytes) × (lo ≤ hi) × (i * b ≤ hi) × (lo ≤ i * b + b) × (i < maxChunks) ⌝ }
     ensures { λ r. ⌜ r ≡ pieceOf b lo hi i ⌝ }
 {
     let base = i * b;
@@ -104,7 +105,7 @@ fn put_piece(out: &mut [u8], at: usize, x: Piece)
 
 // Stores the pieces of the bytes from lo up to hi, `count` from chunk `first` on.
 fn put_pieces(out: &mut [u8], b: u64, lo: u64, hi: u64, first: u64, count: u64)
-    requires { ⌜ (hi ≤ 16777216) × (1 ≤ b) × (b ≤ 65536) × (lo < hi) × (first + count ≤ 256) × (12 * count ≤ length (now out)) ⌝ }
+    requires { ⌜ (hi ≤ maxVolumeBytes) × (1 ≤ b) × (b ≤ maxChunkBytes) × (lo < hi) × (first + count ≤ maxChunks) × (pieceBytes * count ≤ length (now out)) ⌝ }
     requires { ⌜ (first ≡ firstChunk b lo) × (count ≡ pieceCount b lo hi) ⌝ }
     ensures { λ _. ⌜ now (out .exit) ≡ sets (now (out .entry)) 0 (encodeAll (pieces b lo hi)) ⌝ }
 {

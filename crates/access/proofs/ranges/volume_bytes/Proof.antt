@@ -1,6 +1,7 @@
--- `access::ranges::volume_bytes` meets its contract: at most 256 chunks of at most 65,536 bytes.
+-- `access::ranges::volume_bytes` meets its contract: so many chunks of so many bytes at the most.
 use Prim.Native.Nat.{ℕ, _*_}
 use mathlib.Core.Path.{ap}
+use Rattle.layout.specs.Layout.{maxChunks, maxChunkBytes}
 use native.Mathlib.Nat.{mul-le-mul}
 use native.Mathlib.Omega.{arith}
 use borrow.Author.Needs.{needs}
@@ -14,10 +15,13 @@ chunk-bytes-requires : tie.Need-chunk-bytes-requires
 chunk-bytes-requires c κs = search needs
 
 mul-result : tie.Need-mul-result
-mul-result c = omega (arith, mul-le-mul {n₂ = 256} {m₂ = 65536} (c .before .before .pre .c-high) (c .chunk-bytes .ensures .2))
+mul-result c = omega (arith, mul-le-mul {n₂ = maxChunks} {m₂ = maxChunkBytes} (c .before .before .pre .c-high) (c .chunk-bytes .ensures .2))
 
 returns : tie.Need-returns
-returns c = (ap (λ (b : ℕ). c .before .before .args .g .c * b) (c .chunk-bytes .ensures .0), omega (arith, mul-le-mul {n₂ = 256} {m₂ = 65536} (c .before .before .pre .c-high) (c .chunk-bytes .ensures .2)))
+returns c =
+    let a = c .before .before in
+    let high = mul-le-mul {n₂ = maxChunks} {m₂ = maxChunkBytes} (a .pre .c-high) (c .chunk-bytes .ensures .2) in
+    (ap (λ (b : ℕ). a .args .g .c * b) (c .chunk-bytes .ensures .0), omega (arith, high))
 
 pub volume-bytes-spec : {M : Type 1} → statement M
 volume-bytes-spec = tie.close (tie.spec cast-result chunk-bytes-requires mul-result returns)

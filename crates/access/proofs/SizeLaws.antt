@@ -1,0 +1,59 @@
+-- Laws of a chunk's stored size.
+use Prim.Native.Nat.{ℕ, _*_, _<_, _≤_}
+use mathlib.Core.Path.{_≡_, ap, sym, _∙_}
+use mathlib.Core.List.{List}
+use native.Mathlib.Omega.{arith}
+use lib.ListN.{length, getD}
+use borrow.Author.Tests.{lt-ltb, le-ltb, eq-eqb, ne-eqb}
+use Rattle.layout.specs.declared.Shape.{Shape}
+use Rattle.layout.specs.declared.Refusal.{Refusal}
+use Rattle.layout.specs.declared.Refusal.the-variants.{Range}
+use Rattle.layout.specs.Layout.{X, unitBytes, head, shapeOf, linkOf}
+use Rattle.layout.specs.Shaped.{Shaped, mapOf}
+use Rattle.image.specs.declared.Verdict.the-variants.{Refused}
+use Rattle.image.specs.declared.Loaded.{Loaded}
+use Rattle.image.specs.Soundness.{Named}
+use Rattle.image.specs.Stored.{storedSize}
+use Rattle.image.specs.Verdicts.{verdict}
+use Rattle.image.specs.Claims.{heldIn}
+use Rattle.image.proofs.Chunks.{not-mapped, is-mapped, units-named}
+use Rattle.image.proofs.Loads.{Known}
+use Rattle.access.specs.declared.Stored.the-variants.{Size, Refused as NotStored}
+use Rattle.access.specs.Sizes.{sizeAnswer}
+
+-- ---- chunk i, whose entry is w
+
+module _ (s : List ℕ) (g : Shape) (i w : ℕ) (h : Shaped s g) (ew : w ≡ linkOf s i) where
+  pub size-absent : w ≡ X → 0 ≡ storedSize s i
+  unfolding storedSize
+  size-absent x = rw (not-mapped s i (sym ew ∙ x))
+
+  module _ (x : w ≡ X → ⊥) where
+    named : Named s i
+    named e = x (ew ∙ e)
+
+    heads : head (shapeOf s) ≡ head g
+    heads = ap (λ (q : Shape). head q) (sym (h .same))
+
+    pub size-counted : head g ≡ 0 → (k : ℕ) → k ≡ length (heldIn s w) → k * unitBytes ≡ storedSize s i
+    unfolding storedSize
+    size-counted z k e = rw (is-mapped s i named, eq-eqb (head (shapeOf s)) 0 (heads ∙ z), units-named s i named, e, ew)
+
+    pub size-told : (head g ≡ 0 → ⊥) → getD (mapOf s w) 0 0 ≡ storedSize s i
+    unfolding storedSize
+    size-told z = rw (is-mapped s i named, ne-eqb (head (shapeOf s)) 0 (λ q. z (sym heads ∙ q)), ew)
+
+-- ---- the answers, by what load said of the image
+
+pub size-refused : (s : List ℕ) (i : ℕ) (r : Refusal) → verdict s ≡ Refused r → NotStored r ≡ sizeAnswer s i
+size-refused s i r e = rw e
+
+module _ (s : List ℕ) (l : Loaded) (k : Known s l) (i : ℕ) where
+  chunks : l .shape .c ≡ shapeOf s .c
+  chunks = ap (λ (g : Shape). g .c) (k .shape)
+
+  pub size-in : i < l .shape .c → (n : ℕ) → n ≡ storedSize s i → Size n ≡ sizeAnswer s i
+  size-in b n e = rw (k .passed, lt-ltb i (shapeOf s .c) (omega (arith, chunks)), e)
+
+  pub size-out : l .shape .c ≤ i → NotStored Range ≡ sizeAnswer s i
+  size-out b = rw (k .passed, le-ltb i (shapeOf s .c) (omega (arith, chunks)))

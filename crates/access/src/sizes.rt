@@ -1,0 +1,55 @@
+// A chunk's stored size.
+use crate::Stored;
+use image::Verdict;
+use image::load::load;
+use image::maps::held_count;
+use image::maps::link;
+use image::maps::map_word;
+use layout::ABSENT;
+use layout::Refusal;
+use layout::Shape;
+use layout::UNIT_BYTES;
+use layout::geometry::head;
+ghost use mathlib.Core.Path.{_≡_};
+ghost use mathlib.Core.Bool.{true};
+ghost use Prim.Native.Nat.{_<_};
+ghost use Rattle.layout.specs.Shaped.{Shaped};
+ghost use Rattle.image.specs.Stored.{storedSize};
+ghost use Rattle.image.specs.Verdicts.{goodLink};
+ghost use Rattle.access.specs.Sizes.{sizeAnswer};
+
+// The stored size of chunk i, in a sound image.
+fn size_in(image: &[u8], g: Shape, i: usize) -> u64
+    requires { ⌜ Shaped (now image) g ⌝ }
+    requires { ⌜ (i < g .c) × (goodLink (now image) i ≡ true) ⌝ }
+    ensures { λ r. ⌜ r ≡ storedSize (now (image .entry)) i ⌝ }
+{
+    let w = link(image, g, i);
+    if w == ABSENT {
+        return 0;
+    }
+    let k = w as usize;
+    if head(g) == 0 {
+        return held_count(image, g, k) as u64 * UNIT_BYTES;
+    }
+    map_word(image, g, k, 0)
+}
+
+// A chunk's stored size, for any image and chunk number; 0 for an unmapped chunk.
+pub fn stored_size(image: &[u8], chunk: u64) -> Stored
+    ensures { λ r. ⌜ r ≡ sizeAnswer (now (image .entry)) chunk ⌝ }
+{
+    let l = load(image);
+    let v = l.verdict;
+    match v {
+        Verdict::Refused(r) => Stored::Refused(r),
+        Verdict::Passed => {
+            let g = l.shape;
+            let c = g.c as u64;
+            if chunk < c {
+                return Stored::Size(size_in(image, g, chunk as usize));
+            }
+            Stored::Refused(Refusal::Range)
+        }
+    }
+}
