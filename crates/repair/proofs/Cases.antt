@@ -6,9 +6,9 @@ use Rattle.words.specs.Words.{number, digits}
 use Rattle.search.specs.Search.{from, all, any, keep, member, distinct, disjoint, joined}
 use Rattle.layout.specs.declared.Refusal.the-variants.{Short, Small}
 use Rattle.layout.specs.Trailer.{trailerOutcome}
-use Rattle.layout.specs.Layout.{X, fresh, putWord, trailerOf, shapeBytes, sizeBytes, known, fitting, withinLimits, shapeOf, agreeing, wordsOf}
+use Rattle.layout.specs.Layout.{X, isUnit, mapWords, spareBytes, taggedAt, knownAs, editionOf, spareZero, fresh, putWord, trailerOf, shapeBytes, sizeBytes, known, fitting, withinLimits, shapeOf, agreeing, wordsOf}
 use Rattle.image.specs.Soundness.{leading, unitsOf}
-use Rattle.image.specs.Verdicts.{clash, wellFormed}
+use Rattle.image.specs.Verdicts.{clash, wellFormed, sizeFits, goodForm}
 use Rattle.image.proofs.Cases.{small, third}
 use Rattle.repair.specs.declared.Repaired.the-variants.{Unlinked, Refused}
 use Rattle.repair.specs.Repair.{bad, sharesWith, shares, namesTwice, unlinks, unlinked, unlink, repaired, ifRoom, repairAnswer, repairImage, repairList, listBytes}
@@ -49,5 +49,5 @@ worked :
     × (repaired badNeighbour ≡ putWord badNeighbour 1 X)
     × (unlinked several ≡ 1 ∷ 2 ∷ 3 ∷ [])
     × (unlinked chain ≡ 0 ∷ 1 ∷ 2 ∷ [])
-unfolding unlinked unlinks bad sharesWith shares namesTwice unlink repaired ifRoom repairAnswer listBytes joined trailerOutcome clash wellFormed leading unitsOf all any keep member distinct disjoint known fitting withinLimits agreeing fresh trailerOf shapeBytes sizeBytes number digits from shapeOf wordsOf
+unfolding unlinked unlinks bad sharesWith shares namesTwice unlink repaired ifRoom repairAnswer listBytes joined trailerOutcome clash wellFormed leading unitsOf all any keep member distinct disjoint known fitting withinLimits agreeing fresh trailerOf shapeBytes sizeBytes isUnit mapWords sizeFits goodForm spareBytes taggedAt knownAs editionOf spareZero number digits from shapeOf wordsOf
 worked = (refl, refl, refl, refl, refl, refl, refl, refl, refl, refl, refl, refl, refl)

@@ -14,13 +14,11 @@ use Rattle.search.proofs.Ranges.{any-below, any-below-intro}
 use Rattle.search.proofs.Joined.{joined-last}
 use Rattle.bitset.specs.Bits.{bitSet, inSet, inserted}
 use Rattle.bitset.proofs.BitSets.{bitSet-ext, in-bitSet, set-kept, set-with}
-use Rattle.layout.specs.declared.Shape.{Shape}
 use Rattle.layout.specs.Layout.{X, shapeOf, linkOf}
-use Rattle.layout.specs.Shaped.{Shaped}
 use Rattle.image.specs.Soundness.{mapped, unitsOf}
 use Rattle.image.specs.Verdicts.{goodLink, goodMap, clash}
 use Rattle.image.specs.Claims.{heldIn}
-use Rattle.image.proofs.Chunks.{not-mapped, is-mapped, named-below, units-named}
+use Rattle.image.proofs.Chunks.{not-mapped, is-mapped, units-named}
 use Rattle.repair.specs.Repair.{bad, sharesWith, shares, namesTwice}
 use Rattle.repair.specs.Claims.{mapClaim, chunkSetWords, claimsOf, goodClaims, claimsBelow, Counted, badBelow, unlinksBelow}
 
@@ -91,9 +89,6 @@ module _ (s : List ℕ) (i k : ℕ) (l : k ≡ linkOf s i) where
     claims-named =
         claims-mapped s i (is-mapped s i named) ∙ ap (λ (us : List ℕ). mapClaim (linkOf s i) ∷ us) (units-named s i named)
         ∙ ap (λ (h : ℕ). mapClaim h ∷ heldIn s h) (sym l)
-
-    pub link-below : (g : Shape) → Shaped s g → goodLink s i ≡ true → k < g .m
-    link-below g h e = let m = ap (λ (q : Shape). q .m) (h .same) in omega (arith, l, named-below s i named e)
 
   -- the chunk's claims counted after xs
   pub counted-absent : (xs once again : List ℕ) → k ≡ X → Counted xs once again → Counted (xs ++ claimsOf s i) once again

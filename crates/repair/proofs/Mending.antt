@@ -15,11 +15,11 @@ use Rattle.search.proofs.Kept.{keep-none, member-keep, keep-member}
 use Rattle.search.proofs.Ranges.{member-below, below-member}
 use Rattle.words.proofs.Store.{drop-store}
 use Rattle.layout.specs.declared.Shape.{Shape}
-use Rattle.layout.specs.Layout.{X, isUnit, unitWords, shapeOf, linkOf, wordsOf, wordAt, putWord, mapWordPlace}
+use Rattle.layout.specs.Layout.{X, shapeOf, linkOf, wordsOf, wordAt, putWord, mapWordPlace}
 use Rattle.layout.specs.Shaped.{On}
 use Rattle.layout.proofs.Place.{wordAt-same, wordAt-other, on-put, place-past}
 use Rattle.image.specs.Soundness.{mapped, unitsOf}
-use Rattle.image.specs.Verdicts.{wellFormed, goodLink, goodMap, clash}
+use Rattle.image.specs.Verdicts.{goodForm, goodLink, goodMap, clash}
 use Rattle.image.specs.Claims.{Tested}
 use Rattle.image.proofs.Chunks.{not-mapped}
 use Rattle.image.proofs.Order.{Chunk, Apart, Orderly, apart-flip, unmapped-chunk, unmapped-apart, clash-apart, apart-clash, orderly}
@@ -124,7 +124,7 @@ module _ (s : List ℕ) where
       let e = left-good s i b n in
       record {
         bound = λ p. ltb-true (linkOf s i) (g .m) (implied (mapped s i) (ltb (linkOf s i) (g .m)) (good-link s i e) p);
-        formed = λ p. implied (mapped s i) (wellFormed (isUnit g) (unitWords g (wordsOf g s (linkOf s i)))) (good-map s i e) p;
+        formed = λ p. implied (mapped s i) (goodForm g (wordsOf g s (linkOf s i))) (good-map s i e) p;
         single = left-single s i b n;
       }
 

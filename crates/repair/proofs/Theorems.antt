@@ -21,9 +21,9 @@ use Rattle.layout.specs.declared.Refusal.the-variants.{Small}
 use Rattle.layout.specs.declared.Trailer.{Trailer}
 use Rattle.layout.specs.declared.Trailer.the-variants.{Fits, Refused as TrailerRefused}
 use Rattle.layout.specs.Trailer.{trailerOutcome}
-use Rattle.layout.specs.Layout.{trailerStart, trailerOf, trailerAt, shapeOf}
+use Rattle.layout.specs.Layout.{trailerStart, trailerOf, shapeOf}
 use Rattle.layout.specs.Shaped.{On}
-use Rattle.layout.proofs.Limits.{fits-on, on-fits, fitting-length, fitting-limits}
+use Rattle.layout.proofs.Limits.{fits-on, on-fits, fitting-limits}
 use Rattle.layout.proofs.Told.{ends-in-trailer}
 use Rattle.image.specs.Soundness.{Sound}
 use Rattle.image.specs.Claims.{Tested}
@@ -117,9 +117,7 @@ module _ (s : List ℕ) (room n : ℕ) (e : repairAnswer s room ≡ Unlinked n) 
       let g = shapeOf s in
       let o = answered-on in
       let t = repaired-on s o in
-      let size = fitting-length s (o .fitting) in
-      let at : trailerStart g ≡ trailerAt s = omega arith in
-      let ends = repaired-rest s (trailerStart g) (omega arith) ∙ ap (λ (k : ℕ). drop k s) at ∙ ends-in-trailer s b (o .long) (o .known) (o .fitting) in
+      let ends = repaired-rest s (trailerStart g) (omega arith) ∙ ends-in-trailer s b (o .known) (o .fitting) in
       subst (λ (k : Shape). Sound k (repaired s)) (t .shape)
       (trailed-sound (repaired s) (orderly-tested (repaired-orderly s o)) (ap (λ (k : Shape). drop (trailerStart k) (repaired s)) (t .shape) ∙ ends ∙ ap trailerOf (sym (t .shape))))
 

@@ -12,12 +12,11 @@ use Rattle.search.proofs.Bools.{contradict, either, is-true, is-false, and-left
 use Rattle.search.proofs.Members.{member-getD}
 use Rattle.search.proofs.Distinct.{distinct-place}
 use Rattle.search.proofs.Repeated.{repeated-some, repeated-places}
-use Rattle.layout.specs.Layout.{isUnit, shapeOf, fitting, linkOf}
+use Rattle.layout.specs.Layout.{shapeOf, fitting, linkOf, wordsOf}
 use Rattle.layout.proofs.Limits.{fitting-limits, absent-no-unit}
-use Rattle.image.specs.Soundness.{mapped, namedWords, unitsOf, Named, NamesUnit}
+use Rattle.image.specs.Soundness.{mapped, unitsOf, Named, NamesUnit}
 use Rattle.image.specs.Verdicts.{goodLink, goodMap, clash}
-use Rattle.image.proofs.Leading.{form-of, well-formed}
-use Rattle.image.proofs.Chunks.{absent-link, absent-map, is-mapped, named-link, named-map, named-below, mapped-named, unmapped-absent, mapped-of-unit}
+use Rattle.image.proofs.Chunks.{map-form, form-good, absent-link, absent-map, is-mapped, named-link, named-map, named-below, mapped-named, unmapped-absent, mapped-of-unit}
 use Rattle.image.proofs.Order.{clashing, clash-apart}
 use Rattle.image.proofs.Wording.{unit-at, unit-named, unit-place}
 use Rattle.repair.specs.Repair.{bad, shares, namesTwice, unlinks}
@@ -36,7 +35,7 @@ module _ (s : List ℕ) where
 
   good-words : (i : ℕ) → bad s i ≡ false → Good (shapeOf s) s i
   good-words i e n =
-      (named-below s i n (good-link s i e), (_, form-of (isUnit (shapeOf s)) (namedWords (shapeOf s) s i) (sym (named-map s i n) ∙ good-map s i e)))
+      (named-below s i n (good-link s i e), (_, map-form (shapeOf s) (wordsOf (shapeOf s) s (linkOf s i)) (sym (named-map s i n) ∙ good-map s i e)))
 
   -- a good chunk that shares something, or names a unit twice
   shares-fault : (j : ℕ) → j < shapeOf s .c → bad s j ≡ false → shares s j ≡ true → Fault (shapeOf s) s j
@@ -68,7 +67,7 @@ module _ (s : List ℕ) (fits : fitting s ≡ true) where
       (λ m. let n = mapped-named s i m in
       let r = h n in (
         named-link s i n ∙ lt-ltb (linkOf s i) (shapeOf s .m) (r .0),
-        named-map s i n ∙ well-formed (isUnit (shapeOf s)) (r .1 .0) (namedWords (shapeOf s) s i) (absent-no-unit (shapeOf s) (fitting-limits s fits)) (r .1 .1),
+        named-map s i n ∙ form-good (shapeOf s) (wordsOf (shapeOf s) s (linkOf s i)) (r .1 .0) (absent-no-unit (shapeOf s) (fitting-limits s fits)) (r .1 .1),
       ))
       (λ m. let x = unmapped-absent s i m in (absent-link s i x, absent-map s i x))
       (either (mapped s i))
@@ -85,7 +84,7 @@ module _ (s : List ℕ) (fits : fitting s ≡ true) where
       (λ l. let m = is-false (goodMap s j) (λ p. contradict (and-intro (goodLink s j) (goodMap s j) l p) (not-true (goodLink s j && goodMap s j) e)) in
       let n = not-map s j m in
       wrongMap b n (named-below s j n l) (λ k f.
-      contradict (named-map s j n ∙ well-formed (isUnit (shapeOf s)) k (namedWords (shapeOf s) s j) (absent-no-unit (shapeOf s) (fitting-limits s fits)) f) m))
+      contradict (named-map s j n ∙ form-good (shapeOf s) (wordsOf (shapeOf s) s (linkOf s j)) k (absent-no-unit (shapeOf s) (fitting-limits s fits)) f) m))
       (λ l. let n = not-link s j l in wrongLink b n (ltb-false (linkOf s j) (shapeOf s .m) (sym (named-link s j n) ∙ l)))
       (either (goodLink s j))
 
@@ -125,7 +124,7 @@ module _ (s : List ℕ) (fits : fitting s ≡ true) where
     b,
     or-left (not (goodLink s j && goodMap s j)) (shares s j || not (distinct (unitsOf s j)))
         (not-of-false (goodLink s j && goodMap s j) (is-false _ (λ e.
-        w _ (form-of (isUnit (shapeOf s)) (namedWords (shapeOf s) s j) (sym (named-map s j n) ∙ and-right (goodLink s j) (goodMap s j) e))))),
+        w _ (map-form (shapeOf s) (wordsOf (shapeOf s) s (linkOf s j)) (sym (named-map s j n) ∙ and-right (goodLink s j) (goodMap s j) e))))),
   )
   fault-unlinks j (sharedMap i h b n gi gj m e) =
       (b, clash-unlinks i j h n gi (λ c. clash-apart s i j c .maps (is-mapped s i (λ x. m (sym e ∙ x))) (is-mapped s j m) e))

@@ -9,26 +9,27 @@ use lib.ListN.{length, getD, drop}
 use Rattle.search.specs.Search.{below, member}
 use Rattle.words.specs.Words.{u32At}
 use Rattle.layout.specs.declared.Shape.{Shape}
-use Rattle.layout.specs.Layout.{X, isUnit, linkOf}
-use Rattle.image.specs.Soundness.{Named, namedWords, unitsOf, Form, NamesUnit, Sound}
+use Rattle.layout.specs.Layout.{X, linkOf, wordsOf}
+use Rattle.image.specs.Soundness.{Named, unitsOf, MapForm, NamesUnit, Sound}
 
 -- ---- why a chunk is unlinked
 
--- chunk i is one of those "with good links and maps": it names no map; or its entry is below M, and the map "holds 1 to P units below N, then only X"
+-- chunk i is one of those "with good links and maps": it names no map; or its entry is below M, and the map "holds 1 to P units below N,
+-- then only X", in edition 2 with a size of just so many
 abbrev pub Good : Shape → List ℕ → ℕ → Type 0
-Good g s i = Named s i → (linkOf s i < g .m) × ((k : ℕ) × Form (isUnit g) k (namedWords g s i))
+Good g s i = Named s i → (linkOf s i < g .m) × ((k : ℕ) × MapForm g k (wordsOf g s (linkOf s i)))
 
 -- chunk j has a fault
 pub data Fault (g : Shape) (s : List ℕ) (j : ℕ) : Type 0 where
   -- "a bad link": "entry neither X nor below M"
   wrongLink : j < g .c → Named s j → g .m ≤ linkOf s j → Fault g s j
   -- "or bad map": "a named map of the wrong form"
-  wrongMap : j < g .c → Named s j → linkOf s j < g .m → ((k : ℕ) → Form (isUnit g) k (namedWords g s j) → ⊥) → Fault g s j
+  wrongMap : j < g .c → Named s j → linkOf s j < g .m → ((k : ℕ) → MapForm g k (wordsOf g s (linkOf s j)) → ⊥) → Fault g s j
   -- "among chunks with good links and maps, every chunk that shares a map .. with another": with chunk i
   sharedMap : (i : ℕ) → i < g .c → j < g .c → i ≢ j → Good g s i → Good g s j → Named s j → linkOf s i ≡ linkOf s j → Fault g s j
-  -- "or unit": word a of chunk i's map and word b of chunk j's name unit u
+  -- "or unit": unit word a of chunk i's map and unit word b of chunk j's are unit u
   sharedUnit : (i u a b : ℕ) → i ≢ j → Good g s i → Good g s j → NamesUnit g s i a u → NamesUnit g s j b u → Fault g s j
-  -- "or names a unit twice": words a and b of its map
+  -- "or names a unit twice": unit words a and b of its map
   unitTwice : (u a b : ℕ) → a ≢ b → Good g s j → NamesUnit g s j a u → NamesUnit g s j b u → Fault g s j
 
 -- ---- what a repair leaves

@@ -4,7 +4,7 @@ use bitset::contains;
 use bitset::insert;
 use image::maps::held_count;
 use image::maps::link;
-use image::maps::map_word;
+use image::maps::unit_word;
 use layout::ABSENT;
 use layout::Shape;
 ghost use mathlib.Core.Path.{_≡_};
@@ -43,7 +43,7 @@ fn claim_units(image: &[u8], g: Shape, k: usize, count: usize, once: &mut [u64],
 {
     let mut j: usize = 0;
     while j < count {
-        let u = map_word(image, g, k, j);
+        let u = unit_word(image, g, k, j);
         claim(once, again, u as usize);
         j += 1;
     }
@@ -76,7 +76,7 @@ fn has_unit_in(image: &[u8], g: Shape, k: usize, count: usize, set: &[u64]) -> b
 {
     let mut j: usize = 0;
     while j < count {
-        if contains(set, map_word(image, g, k, j)) {
+        if contains(set, unit_word(image, g, k, j)) {
             return true;
         }
         j += 1;

@@ -10,11 +10,11 @@ use Rattle.words.specs.Words.{number, digits}
 use Rattle.search.specs.Search.{from, all, any, keep, member, distinct, disjoint, lowestFrom, joined}
 use Rattle.layout.specs.declared.Refusal.the-variants.{Short, BadAlarm}
 use Rattle.layout.specs.Trailer.{trailerOutcome}
-use Rattle.layout.specs.Layout.{fresh, putWord, trailerOf, shapeBytes, sizeBytes, known, fitting, withinLimits, agreeing, shapeOf, wordsOf}
+use Rattle.layout.specs.Layout.{isUnit, mapWords, spareBytes, taggedAt, knownAs, editionOf, spareZero, fresh, putWord, trailerOf, shapeBytes, sizeBytes, known, fitting, withinLimits, agreeing, shapeOf, wordsOf}
 use Rattle.image.specs.declared.Verdict.{Verdict}
 use Rattle.image.specs.declared.Verdict.the-variants.{Passed, Refused as Unsound}
 use Rattle.image.specs.Soundness.{leading, unitsOf}
-use Rattle.image.specs.Verdicts.{verdict, chunkVerdict, badLink, badMap, doubleClaim, firstClaim, contested, clash, wellFormed}
+use Rattle.image.specs.Verdicts.{verdict, chunkVerdict, badLink, badMap, doubleClaim, firstClaim, contested, clash, wellFormed, sizeFits, goodForm}
 use Rattle.image.specs.Free.{freeUnit, freeUnits, heldUnits}
 use Rattle.image.proofs.Cases.{small, third}
 use Rattle.report.specs.declared.Alarm.{Alarm}
@@ -28,12 +28,12 @@ use Rattle.report.specs.Alarms.{alarmAt, alarmAnswer}
 -- one chunk that holds all of four units
 abbrev pub full : List ℕ
 unfolding fresh digits
-full = putWord (putWord (putWord (putWord (putWord (fresh (record { p = 4; c = 1; m = 2; n = 4 })) 0 0) 1 0) 2 1) 3 2) 4 3
+full = putWord (putWord (putWord (putWord (putWord (fresh (record { edition = 1; p = 4; c = 1; m = 2; n = 4 })) 0 0) 1 0) 2 1) 3 2) 4 3
 
 -- one of two chunks on one of its five units
 abbrev pub single : List ℕ
 unfolding fresh digits
-single = putWord (putWord (fresh (record { p = 5; c = 2; m = 3; n = 10 })) 1 0) 2 0
+single = putWord (putWord (fresh (record { edition = 1; p = 5; c = 2; m = 3; n = 10 })) 1 0) 2 0
 
 -- ---- floats
 
@@ -127,6 +127,6 @@ table =
     ∷ []
 
 pub cases-right : AllRight table
-unfolding verdict trailerOutcome chunkVerdict badLink badMap doubleClaim firstClaim contested clash wellFormed leading unitsOf freeUnit freeUnits heldUnits lowestFrom all any keep member distinct disjoint joined known fitting withinLimits agreeing fresh trailerOf shapeBytes sizeBytes number digits from shapeOf wordsOf lt mul div ofInt isNan mappedCount ratio reportOf alarmAt
+unfolding verdict trailerOutcome chunkVerdict badLink badMap doubleClaim firstClaim contested clash wellFormed leading unitsOf freeUnit freeUnits heldUnits lowestFrom all any keep member distinct disjoint joined known fitting withinLimits agreeing fresh trailerOf shapeBytes sizeBytes isUnit mapWords sizeFits goodForm spareBytes taggedAt knownAs editionOf spareZero number digits from shapeOf wordsOf lt mul div ofInt isNan mappedCount ratio reportOf alarmAt
 cases-right =
     (refl, (refl, (refl, (refl, (refl, (refl, (refl, (refl, (refl, (refl, (refl, (refl, (refl, (refl, (refl, (refl, (refl, (refl, (refl, (refl, (refl, (refl, (refl, (refl, tt))))))))))))))))))))))))

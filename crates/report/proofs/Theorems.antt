@@ -16,7 +16,7 @@ use Rattle.search.specs.Search.{below}
 use Rattle.search.proofs.Ranges.{member-below}
 use Rattle.search.proofs.Kept.{keep-none}
 use Rattle.layout.specs.declared.Shape.{Shape}
-use Rattle.layout.specs.Layout.{shapeOf, fresh}
+use Rattle.layout.specs.Layout.{maxUnits, shapeOf, fresh}
 use Rattle.layout.specs.declared.Formatted.the-variants.{Done}
 use Rattle.layout.specs.Format.{formatAnswer, formatImage}
 use Rattle.layout.specs.Shaped.{Limits}
@@ -61,7 +61,7 @@ abbrev pub emptyReport : ℕ → Report
 emptyReport n = record { mapped = 0; held = 0; free = n; saved = 0; «held_ratio» = zero64; «saved_ratio» = zero64 }
 
 -- the saved ratio of m chunks of p units each, of which h are held
-module _ (m p h : ℕ) (low : 2 ≤ p) (most : h ≤ m * p) (fits : m * p ≤ 4608) where
+module _ (m p h : ℕ) (low : 2 ≤ p) (most : h ≤ m * p) (fits : m * p ≤ maxUnits) where
   saved-some : 0 < m → ratioIfMapped m (m * p - h) (m * p) ≡ round binary64 false (m * p - h) (m * p)
   saved-some M = rw (ne-eqb m 0 (λ e. omega arith)) (ratio-rounds (m * p - h) (m * p) (omega arith) (mul-pos M (omega arith)) (omega arith))
 
@@ -83,7 +83,7 @@ module _ (g : Shape) (s : List ℕ) (z : Sound g s) where
   most : heldCount s ≤ mappedCount s * g .p
   most = rw (sound-shape g s z) at (held-most s)
 
-  fits : mappedCount s * g .p ≤ 4608
+  fits : mappedCount s * g .p ≤ maxUnits
   fits =
       let l = z .limits in
       let few = rw (sound-shape g s z) at (mapped-most s) in

@@ -7,7 +7,7 @@ use lib.Seq.{sets}
 use lib.Dec.{eqb}
 use Rattle.search.specs.Search.{below}
 use Rattle.words.specs.Words.{u32At, digits}
-use Rattle.layout.specs.Layout.{X, unitBytes}
+use Rattle.layout.specs.Layout.{X, unitsFor}
 use Rattle.steps.specs.declared.Value.{Value}
 use Rattle.steps.specs.declared.Value.the-variants.{Number, Absent}
 use Rattle.steps.specs.declared.Step.{Step}
@@ -18,10 +18,6 @@ use Rattle.steps.specs.declared.Request.{Request}
 use Rattle.steps.specs.declared.Request.the-variants.{Write, Discard}
 
 -- ---- requests: "a request (chunk and size, or discard)"
-
--- "A compressed size s takes k = s/4,096 rounded up units"
-abbrev pub unitsFor : ℕ → ℕ
-unitsFor size = (size + (unitBytes - 1)) / unitBytes
 
 abbrev pub chunkOf : Request → ℕ
 chunkOf (Write i size) = i

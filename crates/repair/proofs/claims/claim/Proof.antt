@@ -1,3 +1,4 @@
+-- `repair::claims::claim` meets its contract: a first claim enters the one set, by `claim-first`, and a later one the other, by `claim-later`.
 use Rattle.repair.proofs.Counting.{claim-first, claim-later}
 use mathlib.Core.Path.{sym, _∙_}
 use borrow.Author.Needs.{needs}

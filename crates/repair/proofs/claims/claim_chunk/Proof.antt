@@ -1,8 +1,17 @@
-use Rattle.repair.proofs.Chunks.{link-below, counted-absent, counted-named}
+-- `repair::claims::claim_chunk` meets its contract: an entry of X claims nothing, and any other its map and the units that the map holds.
+use Prim.Native.Nat.{_<_}
+use Rattle.image.proofs.Chunks.{map-named}
+use Rattle.repair.proofs.Chunks.{counted-absent, counted-named}
 use native.Mathlib.Omega.{arith}
 use borrow.Author.Needs.{needs}
 use Rattle.repair.proofs.claims.claim_chunk.Statement.{statement}
 use Rattle.repair.proofs.claims.claim_chunk.Tie as tie
+
+-- the map that a chunk with a good link names
+named : (c : tie.Else1) → c .before .link .result < c .before .before .before .before .before .args .g .m
+named c =
+    let a = c .before .before .before .before .before in
+    map-named (a .args .image .now) (a .args .g) (a .args .i) _ (a .pre .0) (c .before .link .ensures) (c .if1 .left) (a .pre .1 .1)
 
 link-requires : tie.Need-link-requires
 link-requires c κs = search needs
@@ -11,20 +20,22 @@ returns : tie.Need-returns
 returns c = let a = c .before .before .before .before .before in λ xs h. counted-absent (a .args .image .now) (a .args .i) _ (c .before .link .ensures) xs _ _ (c .if1 .taken) h
 
 add-claim : tie.Need-add-claim
-add-claim c = let a = c .before .before .before .before .before .before .before in
-    let b = link-below (a .args .image .now) (a .args .i) _ (c .before .before .before .link .ensures) (c .before .before .if1 .left) (a .args .g) (a .pre .0) (a .pre .1 .1) in
-    omega (arith, a .pre .0 .limits)
+add-claim c =
+    let a = c .before .before .before .before .before .before .before in
+    omega (arith, a .pre .0 .limits, named (c .before .before))
 
 claim-requires : tie.Need-claim-requires
 claim-requires c κs = search needs
 
 held-count-requires : tie.Need-held-count-requires
-held-count-requires c κs = let a = c .before .before .before .before .before .before .before .before .before .before .before .before in
-    (a .pre .0, link-below (a .args .image .now) (a .args .i) _ (c .before .before .before .before .before .before .before .before .link .ensures) (c .before .before .before .before .before .before .before .if1 .left) (a .args .g) (a .pre .0) (a .pre .1 .1))
+held-count-requires c κs =
+    let a = c .before .before .before .before .before .before .before .before .before .before .before .before in
+    (a .pre .0, named (c .before .before .before .before .before .before .before))
 
 claim-units-requires : tie.Need-claim-units-requires
-claim-units-requires c κs = let a = c .before .before .before .before .before .before .before .before .before .before .before .before .before .before .before in
-    (a .pre .0, (link-below (a .args .image .now) (a .args .i) _ (c .before .before .before .before .before .before .before .before .before .before .before .link .ensures) (c .before .before .before .before .before .before .before .before .before .before .if1 .left) (a .args .g) (a .pre .0) (a .pre .1 .1), c .before .before .held-count .ensures))
+claim-units-requires c κs =
+    let a = c .before .before .before .before .before .before .before .before .before .before .before .before .before .before .before in
+    (a .pre .0, (named (c .before .before .before .before .before .before .before .before .before .before), c .before .before .held-count .ensures))
 
 same-length : tie.Need-same-length
 same-length c = search needs

@@ -1,3 +1,4 @@
+-- `repair::claims::claim_units` meets its contract: the first j units of the map are counted.
 use Rattle.repair.proofs.Counting.{counted-start, counted-more, counted-all}
 use Rattle.repair.specs.Claims.{Counted}
 use Rattle.image.proofs.MapWords.{held-word}
@@ -21,8 +22,8 @@ abbrev μ-loop : tie.MeasureT-loop
 loop-holds : tie.Need-loop-holds Inv-loop μ-loop
 loop-holds c = (search needs, refl, refl, λ xs h. counted-start (heldIn (c .before .before .before .args .image .now) (c .before .before .before .args .k)) xs _ _ h)
 
-map-word-requires : tie.Need-map-word-requires Inv-loop μ-loop
-map-word-requires c κs = let a = c .before .before .before .before .before in
+unit-word-requires : tie.Need-unit-word-requires Inv-loop μ-loop
+unit-word-requires c κs = let a = c .before .before .before .before .before in
     (a .pre .0, (a .pre .1 .0, held-word (a .args .image .now) (a .args .g) (a .args .k) (c .before .loop .j) (a .pre .0) (a .pre .1 .0) (omega arith) .0))
 
 claim-requires : tie.Need-claim-requires Inv-loop μ-loop
@@ -35,14 +36,17 @@ loop-less : tie.Need-loop-less Inv-loop μ-loop
 loop-less c = search needs
 
 loop-again : tie.Need-loop-again Inv-loop μ-loop
-loop-again c = let a = c .before .before .before .before .before .before .before .before .before .before .before .before .before in
-    let l = c .before .before .before .before .before .before .before .before .before .loop in
+loop-again c =
+    let claimed = c .before .before .before .before in
+    let l = claimed .before .before .before .before .before .loop in
+    let a = claimed .before .before .before .before .before .before .before .before .before in
     let us = heldIn (a .args .image .now) (a .args .k) in
-    let w = held-word (a .args .image .now) (a .args .g) (a .args .k) (l .j) (a .pre .0) (a .pre .1 .0) (omega arith) in (
+    let w = held-word (a .args .image .now) (a .args .g) (a .args .k) (l .j) (a .pre .0) (a .pre .1 .0) (omega arith) in
+    let unit = claimed .before .before .before .unit-word .ensures ∙ w .1 in (
       omega arith,
-      c .before .before .before .before .claim .kept .0 ∙ l .inv .1,
-      c .before .before .before .before .claim .kept .1 .0 ∙ l .inv .2,
-      λ xs h. counted-more us xs (l .j) _ _ _ (omega arith) (c .before .before .before .before .before .before .before .map-word .ensures ∙ w .1) (c .before .before .before .before .claim .ensures _ (l .inv .3 xs h)),
+      claimed .claim .kept .0 ∙ l .inv .1,
+      claimed .claim .kept .1 .0 ∙ l .inv .2,
+      λ xs h. counted-more us xs (l .j) _ _ _ (omega arith) unit (claimed .claim .ensures _ (l .inv .3 xs h)),
     )
 
 same-length : tie.Need-same-length Inv-loop μ-loop
@@ -62,7 +66,7 @@ claim-units-spec =
     Inv-loop
     μ-loop
     loop-holds
-    map-word-requires
+    unit-word-requires
     claim-requires
     add-j
     loop-less

@@ -1,3 +1,4 @@
+-- `repair::claims::has_unit_in` meets its contract: the units from word j on are still to be looked up.
 use Rattle.image.proofs.MapWords.{held-word}
 use Rattle.image.specs.Claims.{heldIn}
 use Rattle.bitset.specs.Bits.{inSet}
@@ -20,20 +21,22 @@ abbrev μ-loop : tie.MeasureT-loop
 loop-holds : tie.Need-loop-holds Inv-loop μ-loop
 loop-holds c = (search needs, refl)
 
-map-word-requires : tie.Need-map-word-requires Inv-loop μ-loop
-map-word-requires c κs = let a = c .before .before .before .before in
+unit-word-requires : tie.Need-unit-word-requires Inv-loop μ-loop
+unit-word-requires c κs = let a = c .before .before .before .before in
     (a .pre .0, (a .pre .1 .0, held-word (a .args .image .now) (a .args .g) (a .args .k) (c .before .loop .j) (a .pre .0) (a .pre .1 .0) (omega arith) .0))
 
 contains-requires : tie.Need-contains-requires Inv-loop μ-loop
 contains-requires c κs = search needs
 
 returns : tie.Need-returns Inv-loop μ-loop
-returns c = let a = c .before .before .before .before .before .before .before in
+returns c =
+    let a = c .before .before .before .before .before .before .before in
     let l = c .before .before .before .before .loop in
     let us = heldIn (a .args .image .now) (a .args .k) in
     let f = inSet (a .args .set .now) in
     let w = held-word (a .args .image .now) (a .args .g) (a .args .k) (l .j) (a .pre .0) (a .pre .1 .0) (omega arith) in
-    sym (l .inv .1 ∙ any-stop f us (l .j) (omega arith) (ap f (sym (c .before .before .map-word .ensures ∙ w .1)) ∙ sym (c .before .contains .ensures) ∙ c .if1 .taken))
+    let found = ap f (sym (c .before .before .unit-word .ensures ∙ w .1)) ∙ sym (c .before .contains .ensures) ∙ c .if1 .taken in
+    sym (l .inv .1 ∙ any-stop f us (l .j) (omega arith) found)
 
 add-j : tie.Need-add-j Inv-loop μ-loop
 add-j c = search needs
@@ -42,12 +45,14 @@ loop-less : tie.Need-loop-less Inv-loop μ-loop
 loop-less c = search needs
 
 loop-again : tie.Need-loop-again Inv-loop μ-loop
-loop-again c = let a = c .before .before .before .before .before .before .before in
+loop-again c =
+    let a = c .before .before .before .before .before .before .before in
     let l = c .before .before .before .before .loop in
     let us = heldIn (a .args .image .now) (a .args .k) in
     let f = inSet (a .args .set .now) in
     let w = held-word (a .args .image .now) (a .args .g) (a .args .k) (l .j) (a .pre .0) (a .pre .1 .0) (omega arith) in
-    (omega arith, l .inv .1 ∙ any-more f us (l .j) (omega arith) (ap f (sym (c .before .before .map-word .ensures ∙ w .1)) ∙ sym (c .before .contains .ensures) ∙ c .if1 .left))
+    let other = ap f (sym (c .before .before .unit-word .ensures ∙ w .1)) ∙ sym (c .before .contains .ensures) ∙ c .if1 .left in
+    (omega arith, l .inv .1 ∙ any-more f us (l .j) (omega arith) other)
 
 returns-2 : tie.Need-returns-2 Inv-loop μ-loop
 returns-2 c = let a = c .before .before .before .before in
@@ -60,7 +65,7 @@ has-unit-in-spec =
     Inv-loop
     μ-loop
     loop-holds
-    map-word-requires
+    unit-word-requires
     contains-requires
     returns
     add-j

@@ -1,3 +1,4 @@
+-- `repair::faults::add_all_sharing` meets its contract: of the chunks below j those that share are faulty too.
 use Rattle.repair.proofs.Chunks.{sharing-none}
 use Rattle.repair.specs.Claims.{chunkSetWords, unlinksBelow}
 use Rattle.bitset.proofs.BitSets.{length-bitSet}

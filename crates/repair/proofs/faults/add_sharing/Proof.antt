@@ -1,3 +1,4 @@
+-- `repair::faults::add_sharing` meets its contract: a bad chunk is faulty already, and any other becomes so if something that it claims is claimed again.
 use Rattle.repair.proofs.Turns.{claim-again, chunk-here}
 use Rattle.repair.proofs.Chunks.{good-link, known-bad, kept-bad, added-sharing, kept-apart}
 use mathlib.Core.Path.{sym, _∙_}

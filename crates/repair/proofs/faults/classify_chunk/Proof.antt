@@ -1,3 +1,4 @@
+-- `repair::faults::classify_chunk` meets its contract: a bad chunk becomes faulty, and what any other claims is counted.
 use Rattle.repair.proofs.Chunks.{good-link, counted-bad, counted-good, classified-bad, classified-good}
 use mathlib.Core.Path.{sym, _∙_}
 use borrow.Author.Needs.{needs}

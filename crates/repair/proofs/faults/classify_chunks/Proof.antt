@@ -1,3 +1,4 @@
+-- `repair::faults::classify_chunks` meets its contract: the bad chunks below i are faulty, and what the others below i claim is counted.
 use Rattle.repair.proofs.Chunks.{counted-from, classified-none}
 use Rattle.repair.specs.Claims.{chunkSetWords, claimWords, claimsBelow, badBelow, Counted}
 use Rattle.bitset.proofs.BitSets.{length-bitSet}

@@ -1,3 +1,4 @@
+-- `repair::faults::find_faults` meets its contract: the second pass starts from the bad chunks and the counts that the first one leaves.
 use Rattle.repair.proofs.Counting.{counted-none}
 use mathlib.Core.Path.{refl}
 use borrow.Author.Needs.{needs}

@@ -1,3 +1,4 @@
+-- `repair::faults::is_bad` meets its contract: a link that is not good is bad, by `bad-link`, and otherwise the map decides, by `bad-map`.
 use Rattle.repair.proofs.Chunks.{bad-link, bad-map}
 use mathlib.Core.Path.{sym, _∙_}
 use borrow.Author.Needs.{needs}

@@ -1,3 +1,4 @@
+-- `repair::mend::repair` meets its contract: refusals 1 to 3 are the trailer's, and the rest is `repair_in` on the shape that it says.
 use Rattle.repair.proofs.Answering.{answer-fits, answer-refused}
 use Rattle.repair.specs.Repair.{repaired, listing, unlessRefused}
 use Rattle.repair.specs.declared.Repaired.{Repaired}

@@ -1,3 +1,4 @@
+-- `repair::mend::repair_in` meets its contract: the faulty chunks are the image's `unlinked`, and their count is what the list must have room for.
 use Rattle.layout.specs.declared.Shape.{Shape}
 use Rattle.repair.proofs.Answering.{unlinked-few, found-unlinked, found-limit, found-entry, too-short, long-enough}
 use Rattle.bitset.proofs.BitSets.{bitSet-none}

@@ -1,3 +1,4 @@
+-- `repair::mend::unlink_members` meets its contract: the members from `from` on are still to be unlinked and listed.
 use Rattle.repair.proofs.Unlinking.{next-found, unlink-next, list-next, unlink-end, list-end}
 use Rattle.repair.specs.Repair.{unlink, listBytes}
 use Rattle.bitset.specs.Bits.{membersFrom, members}

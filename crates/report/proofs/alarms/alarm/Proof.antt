@@ -8,6 +8,7 @@ use borrow.Author.Needs.{needs}
 use Rattle.layout.specs.declared.Shape.{Shape}
 use Rattle.image.proofs.FreeSets.{free-members}
 use Rattle.image.proofs.Loads.{loaded-known, answer-refused, answer-sound}
+use Rattle.image.specs.Loading.{unitSetWords}
 use Rattle.report.specs.Alarms.{alarmAt}
 use Rattle.report.specs.Counts.{freeCount}
 use Rattle.report.proofs.alarms.alarm.Statement.{statement}
@@ -26,7 +27,7 @@ slice-aggregate-free-count : tie.Need-slice-aggregate-free-count
 slice-aggregate-free-count c = search needs
 
 free-count-requires : tie.Need-free-count-requires
-free-count-requires c κs = let long : length (c .before .before .before .before .before .load .result .units) ≡ 72 = search needs in omega arith
+free-count-requires c κs = let long : length (c .before .before .before .before .before .load .result .units) ≡ unitSetWords = search needs in omega arith
 
 alarm-at-requires : tie.Need-alarm-at-requires
 alarm-at-requires c κs = search needs

@@ -6,6 +6,7 @@ use denote.Ref.{now}
 use borrow.Author.Needs.{needs}
 use Rattle.image.proofs.FreeSets.{free-members}
 use Rattle.image.proofs.Loads.{loaded-known, answer-refused, answer-sound}
+use Rattle.image.specs.Loading.{unitSetWords}
 use Rattle.report.specs.Reports.{passedReport}
 use Rattle.report.proofs.reports.report.Statement.{statement}
 use Rattle.report.proofs.reports.report.Tie as tie
@@ -26,7 +27,7 @@ slice-aggregate-free-count : tie.Need-slice-aggregate-free-count
 slice-aggregate-free-count c = search needs
 
 free-count-requires : tie.Need-free-count-requires
-free-count-requires c κs = let long : length (c .before .before .before .before .before .load .result .units) ≡ 72 = search needs in omega arith
+free-count-requires c κs = let long : length (c .before .before .before .before .before .load .result .units) ≡ unitSetWords = search needs in omega arith
 
 report-in-requires : tie.Need-report-in-requires
 report-in-requires c κs =
