@@ -6,7 +6,7 @@ use mathlib.Core.List.{List}
 use native.Mathlib.Omega.{arith}
 use Rattle.layout.specs.declared.Refusal.{Refusal}
 use Rattle.layout.specs.declared.Refusal.the-variants.{Range, Size, BadPlan}
-use Rattle.layout.specs.Layout.{mapWords, shapeOf}
+use Rattle.layout.specs.Layout.{shapeOf}
 use Rattle.image.specs.declared.Verdict.{Verdict}
 use Rattle.image.specs.declared.Verdict.the-variants.{Refused, Passed as Fine}
 use Rattle.image.specs.Claims.{Tested}
@@ -25,7 +25,7 @@ use Rattle.rules.specs.Rules.{rule1, rule2, rule3, rule4, rule5, knownOf, goodC
 pub record Unbroken (s : List ℕ) (r : Request) (plan : List ℕ) : Type 0 where
   pub one : rule1 (shapeOf s) plan ≡ true
   pub two : rule2 (freeUnit s) r (stepsOf plan) ≡ true
-  pub three : rule3 (mapWords (shapeOf s)) (freeMap s) r (stepsOf plan) ≡ true
+  pub three : rule3 (shapeOf s) (freeMap s) r (stepsOf plan) ≡ true
   pub four : rule4 (mapped s (chunkOf r)) r (stepsOf plan) ≡ true
   pub five : rule5 (mapped s (chunkOf r)) r (stepsOf plan) ≡ true
 
@@ -64,7 +64,7 @@ accepted-of s r plan e =
     let w = good (goodChunk (shapeOf s) r) (goodSize (shapeOf s) r) (broken (brokenRule (knownOf s r) r plan)) (v .1) in
     let xs = stepsOf plan in
     let m = mapped s (chunkOf r) in
-    let k = kept (rule1 (shapeOf s) plan) (rule2 (freeUnit s) r xs) (rule3 (mapWords (shapeOf s)) (freeMap s) r xs) (rule4 m r xs) (rule5 m r xs) (w .2) in
+    let k = kept (rule1 (shapeOf s) plan) (rule2 (freeUnit s) r xs) (rule3 (shapeOf s) (freeMap s) r xs) (rule4 m r xs) (rule5 m r xs) (w .2) in
     record {
       sound = passed-tested s (v .0);
       chunk = w .0;

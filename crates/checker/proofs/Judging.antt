@@ -9,7 +9,7 @@ use borrow.Author.Tests.{lt-ltb, le-ltb, leb-true}
 use Rattle.search.proofs.Bools.{and-right}
 use Rattle.layout.specs.declared.Shape.{Shape}
 use Rattle.layout.specs.declared.Refusal.the-variants.{Range, Size, BadPlan}
-use Rattle.layout.specs.Layout.{unitBytes, shapeOf}
+use Rattle.layout.specs.Layout.{maxChunkUnits, maxChunkBytes, unitBytes, shapeOf}
 use Rattle.layout.specs.Shaped.{Shaped}
 use Rattle.layout.proofs.Limits.{product-high}
 use Rattle.bitset.specs.Bits.{bitSet, inSet}
@@ -17,6 +17,7 @@ use Rattle.image.specs.declared.Verdict.the-variants.{Passed}
 use Rattle.image.specs.Verdicts.{verdict}
 use Rattle.image.specs.Soundness.{mapped}
 use Rattle.image.specs.Free.{freeUnit, freeMap}
+use Rattle.image.specs.Loading.{unitSetWords, mapSetWords}
 use Rattle.steps.specs.declared.Request.{Request}
 use Rattle.steps.specs.declared.Request.the-variants.{Write, Discard}
 use Rattle.steps.specs.Steps.{chunkOf, sizeOf}
@@ -28,7 +29,7 @@ pub broken-some : (k : ℕ) → (k ≡ 0 → ⊥) → Denied (BadPlan k) ≡ bro
 broken-some zero h = absurd (h refl)
 broken-some (suc k) h = refl
 
-pub size-low : (g : Shape) (r : Request) → g .p ≤ 16 → goodSize g r ≡ true → sizeOf r ≤ 65536
+pub size-low : (g : Shape) (r : Request) → g .p ≤ maxChunkUnits → goodSize g r ≡ true → sizeOf r ≤ maxChunkBytes
 size-low g (Write i size) p h = let a = leb-true size (g .p * unitBytes) (and-right (leb 1 size) (leb size (g .p * unitBytes)) h) in omega arith
 size-low g (Discard i) p h = omega arith
 
@@ -49,13 +50,13 @@ module _ (s : List ℕ) (g : Shape) (e : g ≡ shapeOf s) (r : Request) (plan : 
         rw (lt-ltb (chunkOf r) (shapeOf s .c) (rw el low), ap (λ (h : Shape). goodSize h r) el ∙ z)
 
     pub rule-found :
-        Shaped s g → goodSize g r ≡ true → (units maps : List ℕ) → units ≡ bitSet (freeUnit s) 72 → maps ≡ bitSet (freeMap s) 5
+        Shaped s g → goodSize g r ≡ true → (units maps : List ℕ) → units ≡ bitSet (freeUnit s) unitSetWords → maps ≡ bitSet (freeMap s) mapSetWords
         → (held : Bool) → held ≡ mapped s (chunkOf r)
         → (k : ℕ) → k ≡ brokenRule (known g (inSet units) (inSet maps) held) r plan
         → broken k ≡ judged s r plan
     rule-found h z units maps eu em held eh k ek =
         let a = product-high (g .p) (g .m) (h .limits .p-high) (omega arith) in
-        let n : g .n ≤ 64 * 72 = omega arith in
+        let n : g .n ≤ 64 * unitSetWords = omega arith in
         let m : g .m ≤ 64 * 5 = omega arith in
         let same : known g (inSet units) (inSet maps) held ≡ knownOf s r =
         (λ t. known (e t) (inSet units) (inSet maps) (eh t)) ∙ known-is s r units maps (rw (sym e) n) (rw (sym e) m) eu em in

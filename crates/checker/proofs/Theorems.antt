@@ -12,6 +12,7 @@ use Rattle.layout.specs.declared.Shape.{Shape}
 use Rattle.layout.specs.declared.Refusal.{Refusal}
 use Rattle.layout.specs.declared.Refusal.the-variants.{Short, Foreign, Geometry, BadLink, BadMap, Shared, Range, Size, NoRoom, Small, BadPlan, BadAlarm}
 use Rattle.layout.specs.Layout.{mapWords, shapeOf}
+use Rattle.layout.proofs.Limits.{map-words}
 use Rattle.image.specs.declared.Verdict.{Verdict}
 use Rattle.image.specs.declared.Verdict.the-variants.{Passed, Refused as Unsound}
 use Rattle.image.specs.Soundness.{Sound}
@@ -89,7 +90,7 @@ module _ (s : List ℕ) (r : Request) (plan : List ℕ) where
   of-passed e = ap (λ (v : Verdict). ifSound v Refused (judged s r plan)) e
 
   some-word : Sound g s → 1 ≤ mapWords g
-  some-word z = omega (arith, z .limits .p-low)
+  some-word z = omega (arith, z .limits .p-low, map-words g)
 
   -- every refusal and the acceptance, where each is given
   module _ (z : Sound g s) where

@@ -14,6 +14,8 @@ use steps::Request;
 ghost use mathlib.Core.Path.{_≡_};
 ghost use Prim.Native.Nat.{_≤_};
 ghost use Rattle.bitset.specs.Bits.{inSet};
+ghost use Rattle.layout.specs.Layout.{maxChunkBytes};
+ghost use Rattle.layout.specs.Shaped.{Limits};
 ghost use Rattle.steps.specs.Steps.{sizeOf};
 ghost use Rattle.rules.specs.Rules.{known, brokenRule};
 
@@ -26,7 +28,7 @@ pub fn broken_rule(
     units: [u64; UNIT_SET_WORDS],
     maps: [u64; MAP_SET_WORDS],
 ) -> u32
-    requires { ⌜ (g .p ≤ 16) × (sizeOf request ≤ 65536) ⌝ }
+    requires { ⌜ Limits g × (sizeOf request ≤ maxChunkBytes) ⌝ }
     ensures { λ r. ⌜ r ≡ brokenRule (known g (inSet units) (inSet maps) mapped) request (now (plan .entry)) ⌝ }
 {
     if !keeps_rule1(g, plan) {
@@ -38,7 +40,7 @@ pub fn broken_rule(
         return 2;
     }
     let a = first_map(plan);
-    if !keeps_rule3(plan, g.p, request, a, &maps, &held) {
+    if !keeps_rule3(plan, g, request, a, &maps, &held) {
         return 3;
     }
     if !keeps_rule4(plan, request, mapped, a) {

@@ -4,18 +4,15 @@ use image::MAP_SET_WORDS;
 use image::UNIT_SET_WORDS;
 use image::Verdict;
 use image::load::load;
-use image::maps::link;
-use layout::ABSENT;
+use image::maps::is_mapped;
 use layout::Refusal;
 use layout::Shape;
-use layout::UNIT_BYTES;
+use layout::geometry::is_size;
 use rules::Checked;
 use steps::Request;
 ghost use mathlib.Core.Path.{_≡_};
 ghost use mathlib.Core.Bool.{true};
-ghost use Prim.Native.Nat.{_<_};
 ghost use Rattle.layout.specs.Shaped.{Shaped};
-ghost use Rattle.image.specs.Soundness.{mapped};
 ghost use Rattle.image.specs.Free.{freeUnit, freeMap};
 ghost use Rattle.image.specs.Loading.{unitSetWords, mapSetWords};
 ghost use Rattle.bitset.specs.Bits.{bitSet};
@@ -37,24 +34,9 @@ pub fn good_size(g: Shape, request: Request) -> bool
     ensures { λ r. ⌜ r ≡ goodSize g request ⌝ }
 {
     match request {
-        Request::Write { chunk: _, size } => {
-            if size < 1 {
-                return false;
-            }
-            let p = g.p as u64;
-            size <= p * UNIT_BYTES
-        }
+        Request::Write { chunk: _, size } => is_size(g, size),
         Request::Discard { chunk: _ } => true,
     }
-}
-
-// Whether chunk i is mapped.
-pub fn is_mapped(image: &[u8], g: Shape, i: u64) -> bool
-    requires { ⌜ Shaped (now image) g ⌝ }
-    requires { ⌜ i < g .c ⌝ }
-    ensures { λ r. ⌜ r ≡ mapped (now (image .entry)) i ⌝ }
-{
-    link(image, g, i as usize) != ABSENT
 }
 
 // The answer for a sound image, of which the shape and the free sets are known.

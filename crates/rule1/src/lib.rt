@@ -1,5 +1,8 @@
 // Rule 1: whole steps, each in range.
 use layout::Shape;
+use layout::geometry::head;
+use layout::geometry::is_size;
+use layout::geometry::map_words;
 use rules::MAX_STEPS;
 use steps::Decoded;
 use steps::STEP_BYTES;
@@ -7,7 +10,8 @@ use steps::Step;
 use steps::Value;
 use steps::decode::decode_at;
 ghost use mathlib.Core.Path.{_≡_};
-ghost use Rattle.rules.specs.Rules.{valueBelow, inRange, wholeInRange, rule1};
+ghost use Rattle.layout.specs.Shaped.{Limits};
+ghost use Rattle.rules.specs.Rules.{valueBelow, sizeValue, wordInRange, inRange, wholeInRange, rule1};
 
 fn value_below(n: u32, v: Value) -> bool
     ensures { λ r. ⌜ r ≡ valueBelow n v ⌝ }
@@ -18,16 +22,37 @@ fn value_below(n: u32, v: Value) -> bool
     }
 }
 
+fn is_size_value(g: Shape, v: Value) -> bool
+    ensures { λ r. ⌜ r ≡ sizeValue g v ⌝ }
+{
+    match v {
+        Value::Number(w) => is_size(g, w as u64),
+        Value::Absent => false,
+    }
+}
+
+// A MAP value: of a word before the units a size, of any other a unit or X.
+fn word_in_range(g: Shape, word: u32, value: Value) -> bool
+    requires { ⌜ Limits g ⌝ }
+    ensures { λ r. ⌜ r ≡ wordInRange g word value ⌝ }
+{
+    if word < head(g) {
+        return is_size_value(g, value);
+    }
+    value_below(g.n, value)
+}
+
 fn map_in_range(g: Shape, map: u32, word: u32, value: Value) -> bool
+    requires { ⌜ Limits g ⌝ }
     ensures { λ r. ⌜ r ≡ inRange g (Step.Map map word value) ⌝ }
 {
     if map >= g.m {
         return false;
     }
-    if word >= g.p {
+    if word >= map_words(g) {
         return false;
     }
-    value_below(g.n, value)
+    word_in_range(g, word, value)
 }
 
 fn link_in_range(g: Shape, chunk: u32, value: Value) -> bool
@@ -52,6 +77,7 @@ fn data_in_range(g: Shape, unit: u32, piece: u32, write: u32) -> bool
 }
 
 fn whole_in_range(g: Shape, d: Decoded) -> bool
+    requires { ⌜ Limits g ⌝ }
     ensures { λ r. ⌜ r ≡ wholeInRange g d ⌝ }
 {
     let Decoded::Whole(s) = d else {
@@ -67,6 +93,7 @@ fn whole_in_range(g: Shape, d: Decoded) -> bool
 
 // Whether a plan keeps rule 1.
 pub fn keeps_rule1(g: Shape, plan: &[u8]) -> bool
+    requires { ⌜ Limits g ⌝ }
     ensures { λ r. ⌜ r ≡ rule1 g (now (plan .entry)) ⌝ }
 {
     if plan.len() % STEP_BYTES != 0 {

@@ -11,7 +11,7 @@ use borrow.Author.Tests.{eqb-true, eqb-false, eq-eqb, ne-eqb, ltb-true}
 use Rattle.search.specs.Search.{all, distinct}
 use Rattle.search.specs.Sets.{put}
 use Rattle.search.proofs.Bools.{contradict, and-left, and-false-left}
-use Rattle.layout.specs.Layout.{X}
+use Rattle.layout.specs.Layout.{maxChunkUnits, X}
 use Rattle.bitset.specs.Bits.{inSet, removed}
 use Rattle.bitset.proofs.BitSets.{length-bitSet}
 use Rattle.steps.specs.declared.Step.{Step}
@@ -23,6 +23,7 @@ use Rattle.rules.specs.Rules.{collect, pieceIn, unitIn, pieces, units, unitOf, 
 use Rattle.rules.specs.Passes.{fold, expecting, counted, complete, unmet, Placing, placing, place, Placed}
 use Rattle.rules.proofs.Folding.{fold-keeps}
 use Rattle.rules.proofs.Taking.{fresh, fresh-cons, in-removed, still-in, in-unmet, not-X, counted-right, counted-wrong, counted-none, counted-bad}
+use Rattle.image.specs.Loading.{unitSetWords}
 
 bad-step : (st : Placing) (x : Step) → st .tally .good ≡ false → place st x .tally .good ≡ false
 bad-step st (Data u j w) h = counted-bad (st .tally) (inSet (st .pieces) j && inSet (st .units) u) h
@@ -108,7 +109,7 @@ Holds st xs i =
     fold place st xs .tally .good ≡ true → getD (fold place st xs .held) i X ≡ cond (eqb (getD (st .held) i X) X) (unitOf i xs) (getD (st .held) i X)
 
 data-holds :
-    (u j w n : ℕ) (xs : List Step) (ps us held : List ℕ) (i : ℕ) → length us ≤ 72 → Vacant ps held → (a b : Bool) → inSet ps j ≡ a → inSet us u ≡ b
+    (u j w n : ℕ) (xs : List Step) (ps us held : List ℕ) (i : ℕ) → length us ≤ unitSetWords → Vacant ps held → (a b : Bool) → inSet ps j ≡ a → inSet us u ≡ b
     → Holds (start n (removed ps j) (removed us u) (set held j u)) xs i
     → Holds (start (suc n) ps us held) (Data u j w ∷ xs) i
 unfolding fold unitOf
@@ -127,7 +128,7 @@ length-removed : (us : List ℕ) (u : ℕ) → length (removed us u) ≡ length 
 unfolding removed
 length-removed us u = length-bitSet (put (inSet us) u false) (length us)
 
-held-are : (xs : List Step) (n : ℕ) (ps us held : List ℕ) (i : ℕ) → length us ≤ 72 → Vacant ps held → Holds (start n ps us held) xs i
+held-are : (xs : List Step) (n : ℕ) (ps us held : List ℕ) (i : ℕ) → length us ≤ unitSetWords → Vacant ps held → Holds (start n ps us held) xs i
 unfolding fold unitOf
 held-are [] n ps us held i few v h = sym (go (eqb (getD held i X) X) refl)
   where
@@ -151,25 +152,25 @@ getD-none zero i = refl
 getD-none (suc size) zero = refl
 getD-none (suc size) (suc i) = getD-none size i
 
-module _ (k : ℕ) (small : k ≤ 16) (us : List ℕ) (few : length us ≤ 72) (xs : List Step) where
+module _ (k : ℕ) (small : k ≤ maxChunkUnits) (us : List ℕ) (few : length us ≤ unitSetWords) (xs : List Step) where
   abbrev end : Placing
-  end = fold place (start k (unmet k) us (replicate 16 X)) xs
+  end = fold place (start k (unmet k) us (replicate maxChunkUnits X)) xs
 
   decides : complete (end .tally) ≡ (onceEach k (pieces xs) && distinct (units xs) && all (inSet us) (units xs))
   unfolding onceEach fresh
-  decides = decided xs k (unmet k) us (replicate 16 X) ∙ rw (in-unmet k small) (simp and-assoc)
+  decides = decided xs k (unmet k) us (replicate maxChunkUnits X) ∙ rw (in-unmet k (omega arith)) (simp and-assoc)
 
-  vacant : Vacant (unmet k) (replicate 16 X)
+  vacant : Vacant (unmet k) (replicate maxChunkUnits X)
   vacant i h =
-      let b = ltb-true i k (sym (ap (λ (f : ℕ → Bool). f i) (in-unmet k small)) ∙ h) in
-      let l = length-replicate {A = ℕ} 16 X in
-      (omega arith, getD-none 16 i)
+      let b = ltb-true i k (sym (ap (λ (f : ℕ → Bool). f i) (in-unmet k (omega arith))) ∙ h) in
+      let l = length-replicate {A = ℕ} maxChunkUnits X in
+      (omega arith, getD-none maxChunkUnits i)
 
   units-held : (i : ℕ) → end .tally .good ≡ true → getD (end .held) i X ≡ unitOf i xs
-  units-held i h = held-are xs k (unmet k) us (replicate 16 X) i few vacant h ∙ rw (getD-none 16 i) refl
+  units-held i h = held-are xs k (unmet k) us (replicate maxChunkUnits X) i few vacant h ∙ rw (getD-none maxChunkUnits i) refl
 
   pub placed-of :
-      (r : Request) (ps held : List ℕ) (t : Tally) (ps′ us′ held′ : List ℕ) (ok : Bool) → k ≡ needOf r → ps ≡ unmet k → held ≡ replicate 16 X
+      (r : Request) (ps held : List ℕ) (t : Tally) (ps′ us′ held′ : List ℕ) (ok : Bool) → k ≡ needOf r → ps ≡ unmet k → held ≡ replicate maxChunkUnits X
       → placing t ps′ us′ held′ ≡ fold place (start k ps us held) xs
       → ok ≡ complete t
       → Placed (inSet us) r xs ok held′

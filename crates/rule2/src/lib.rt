@@ -2,7 +2,7 @@
 use bitset::contains;
 use bitset::fill;
 use bitset::remove;
-use layout::UNIT_BYTES;
+use layout::geometry::units_for;
 use rules::SLOT_WORDS;
 use rules::Tally;
 use rules::bools::both;
@@ -17,7 +17,7 @@ use steps::decode::decode_at;
 ghost use mathlib.Core.Path.{_≡_};
 ghost use lib.ListN.{length, replicate};
 ghost use Prim.Native.Nat.{_≤_};
-ghost use Rattle.layout.specs.Layout.{X};
+ghost use Rattle.layout.specs.Layout.{X, maxChunkUnits, maxChunkBytes};
 ghost use Rattle.bitset.specs.Bits.{inSet};
 ghost use Rattle.image.specs.Loading.{unitSetWords};
 ghost use Rattle.steps.specs.Steps.{stepsOf, needOf, sizeOf};
@@ -92,24 +92,21 @@ fn place_all(plan: &[u8], k: u32, pieces: &mut [u64], units: &mut [u64], held: &
     t
 }
 
-// What rounds a size up to whole units.
-const LAST_BYTE: u64 = UNIT_BYTES - 1;
-
 // How many units a request takes: none for a discard.
 fn need_of(request: Request) -> u32
-    requires { ⌜ sizeOf request ≤ 65536 ⌝ }
-    ensures { λ r. ⌜ (r ≡ needOf request) × (r ≤ 16) ⌝ }
+    requires { ⌜ sizeOf request ≤ maxChunkBytes ⌝ }
+    ensures { λ r. ⌜ (r ≡ needOf request) × (r ≤ maxChunkUnits) ⌝ }
 {
     match request {
-        Request::Write { chunk: _, size } => ((size + LAST_BYTE) / UNIT_BYTES) as u32,
+        Request::Write { chunk: _, size } => units_for(size) as u32,
         Request::Discard { chunk: _ } => 0,
     }
 }
 
 // Whether a plan keeps rule 2, and then the units of its pieces.
 pub fn keeps_rule2(plan: &[u8], request: Request, units: &mut [u64], held: &mut [u64]) -> bool
-    requires { ⌜ sizeOf request ≤ 65536 ⌝ }
-    requires { ⌜ (length (now units) ≤ unitSetWords) × (now held ≡ replicate 16 X) ⌝ }
+    requires { ⌜ sizeOf request ≤ maxChunkBytes ⌝ }
+    requires { ⌜ (length (now units) ≤ unitSetWords) × (now held ≡ replicate maxChunkUnits X) ⌝ }
     ensures { λ r. ⌜ Placed (inSet (now (units .entry))) request (stepsOf (now (plan .entry))) r (now (held .exit)) ⌝ }
 {
     let k = need_of(request);

@@ -12,8 +12,11 @@ use Rattle.steps.specs.declared.Value.{Value}
 use Rattle.steps.specs.declared.Step.{Step}
 use Rattle.steps.specs.declared.Step.the-variants.{Data, Map, Link, Fence}
 use Rattle.steps.specs.declared.Request.{Request}
+use Rattle.steps.specs.Steps.{sizeOf}
+use Rattle.layout.specs.declared.Shape.{Shape}
+use Rattle.layout.specs.Layout.{head, mapWords, afterHead}
 use Rattle.rules.specs.declared.Tally.{Tally}
-use Rattle.rules.specs.Rules.{collect, wordIn, words, every, mapFits, mapsFit, wordFor, planMap, onceEach, storedWords, rule3}
+use Rattle.rules.specs.Rules.{collect, wordIn, words, every, mapFits, mapsFit, unitOf, planMap, onceEach, storedWords, rule3}
 use Rattle.rules.specs.Passes.{fold, expecting, counted, complete, unmet, Storing, storing, store, unitAt, Held}
 use Rattle.rules.proofs.Folding.{fold-keeps}
 use Rattle.rules.proofs.Taking.{fresh, fresh-cons, in-removed, in-unmet, counted-right, counted-wrong, counted-none, counted-bad}
@@ -62,21 +65,27 @@ module _ (a : ℕ) (free : ℕ → Bool) (word : ℕ → ℕ) where
       map-step k j n v xs ws (inSet ws j) (mapFits a free word (Map k j v)) refl refl (decided xs n (removed ws j))
 
   pub words-stored :
-      (n : ℕ) → n ≤ 16 → (xs : List Step)
+      (n : ℕ) → n ≤ 64 → (xs : List Step)
       → complete (fold (store a free word) (storing (expecting n) (unmet n)) xs .tally) ≡ (onceEach n (words xs) && mapsFit a free word xs)
   unfolding onceEach fresh
   words-stored n small xs = decided xs n (unmet n) ∙ rw (in-unmet n small) (simp and-assoc)
 
 -- with the map that the plan is on, and the units of its pieces held
 pub stored-rule :
-    (free : ℕ → Bool) (r : Request) (xs : List Step) (p n a : ℕ) (held ws : List ℕ) (t : Tally) (ws′ : List ℕ) (ok : Bool) → n ≡ storedWords p r → n ≤ 16
+    (free : ℕ → Bool) (r : Request) (xs : List Step) (g : Shape) (p n a heads size : ℕ) (held ws : List ℕ) (t : Tally) (ws′ : List ℕ) (ok : Bool)
+    → p ≡ mapWords g
+    → n ≡ storedWords p r
+    → n ≤ 64
+    → heads ≡ head g
+    → size ≡ sizeOf r
     → a ≡ planMap xs
     → Held held xs
     → ws ≡ unmet n
-    → storing t ws′ ≡ fold (store a free (unitAt held)) (storing (expecting n) ws) xs
+    → storing t ws′ ≡ fold (store a free (afterHead heads size (unitAt held))) (storing (expecting n) ws) xs
     → ok ≡ complete t
-    → ok ≡ rule3 p free r xs
+    → ok ≡ rule3 g free r xs
 unfolding rule3
-stored-rule free r xs p n a held ws t ws′ ok en small ea h ew e eo =
-    let eu : unitAt held ≡ wordFor xs = fun-ext h in
-    eo ∙ ap (λ (st : Storing). complete (st .tally)) e ∙ rw (ew, ← en, ← ea, ← eu) (words-stored a free (unitAt held) n small xs)
+stored-rule free r xs g p n a heads size held ws t ws′ ok ep en small eh es ea h ew e eo =
+    let eu : unitAt held ≡ (λ j. unitOf j xs) = fun-ext h in
+    eo ∙ ap (λ (st : Storing). complete (st .tally)) e
+    ∙ rw (ew, ← ep, ← en, ← ea, ← eh, ← es, ← eu) (words-stored a free (afterHead heads size (unitAt held)) n small xs)

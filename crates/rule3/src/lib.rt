@@ -3,6 +3,9 @@ use bitset::contains;
 use bitset::fill;
 use bitset::remove;
 use layout::ABSENT;
+use layout::Shape;
+use layout::geometry::head;
+use layout::geometry::map_words;
 use rules::SLOT_WORDS;
 use rules::Tally;
 use rules::bools::both;
@@ -19,7 +22,9 @@ use steps::values::word_of;
 ghost use mathlib.Core.Path.{_≡_};
 ghost use Prim.Native.Nat.{_≤_};
 ghost use Rattle.bitset.specs.Bits.{inSet};
-ghost use Rattle.steps.specs.Steps.{stepsOf};
+ghost use Rattle.layout.specs.Layout.{afterHead};
+ghost use Rattle.layout.specs.Shaped.{Limits};
+ghost use Rattle.steps.specs.Steps.{sizeOf, stepsOf};
 ghost use Rattle.rules.specs.Rules.{planMap, storedWords, mapFits, rule3};
 ghost use Rattle.rules.specs.Passes.{unitAt, fold, onDecoded, expecting, Held, mapTold, storing, store as storeOf};
 
@@ -62,16 +67,35 @@ pub fn first_map(plan: &[u8]) -> u64
     ABSENT
 }
 
-// Whether a MAP step is on map a, a free one, and stores the unit that is held for its word.
-fn map_fits(a: u64, free: &[u64], held: &[u64], map: u32, word: u32, value: Value) -> bool
-    ensures { λ r. ⌜ r ≡ mapFits a (inSet (now (free .entry))) (unitAt (now (held .entry))) (Step.Map map word value) ⌝ }
+// What a word of the new map is to hold: the size in the first `heads` words, then the units that are held.
+fn word_for(heads: u32, size: u64, held: &[u64], word: u32) -> u64
+    ensures { λ r. ⌜ r ≡ afterHead heads size (unitAt (now (held .entry))) word ⌝ }
+{
+    if word < heads {
+        return size;
+    }
+    unit_at(held, (word - heads) as usize)
+}
+
+// Whether a MAP step is on map a, a free one, and stores what its word is to hold.
+fn map_fits(
+    a: u64,
+    free: &[u64],
+    heads: u32,
+    size: u64,
+    held: &[u64],
+    map: u32,
+    word: u32,
+    value: Value,
+) -> bool
+    ensures { λ r. ⌜ r ≡ mapFits a (inSet (now (free .entry))) (afterHead heads size (unitAt (now (held .entry)))) (Step.Map map word value) ⌝ }
 {
     let k = map as u64;
     let w = word_of(value);
-    let unit = unit_at(held, word as usize);
+    let awaited = word_for(heads, size, held, word);
     let is_free = contains(free, k);
     let on_map = both(a == k, is_free);
-    both(on_map, w == unit)
+    both(on_map, w == awaited)
 }
 
 // One MAP step: its word is to be one of those left.
@@ -80,6 +104,8 @@ fn store_word(
     words: &mut [u64],
     a: u64,
     free: &[u64],
+    heads: u32,
+    size: u64,
     held: &[u64],
     map: u32,
     word: u32,
@@ -87,20 +113,29 @@ fn store_word(
 ) -> Tally
     ensures { λ r. ⌜
         storing r (now (words .exit))
-        ≡ storeOf a (inSet (now (free .entry))) (unitAt (now (held .entry))) (storing t (now (words .entry))) (Step.Map map word value)
+        ≡ storeOf a (inSet (now (free .entry))) (afterHead heads size (unitAt (now (held .entry)))) (storing t (now (words .entry))) (Step.Map map word value)
         ⌝ }
 {
     let awaited = contains(words, word as u64);
-    let fits = map_fits(a, free, held, map, word, value);
+    let fits = map_fits(a, free, heads, size, held, map, word, value);
     let ok = both(awaited, fits);
     remove(words, word as usize);
     counted(t, ok)
 }
 
-fn store(t: Tally, words: &mut [u64], a: u64, free: &[u64], held: &[u64], d: Decoded) -> Tally
+fn store(
+    t: Tally,
+    words: &mut [u64],
+    a: u64,
+    free: &[u64],
+    heads: u32,
+    size: u64,
+    held: &[u64],
+    d: Decoded,
+) -> Tally
     ensures { λ r. ⌜
         storing r (now (words .exit))
-        ≡ onDecoded (storeOf a (inSet (now (free .entry))) (unitAt (now (held .entry)))) (storing t (now (words .entry))) d
+        ≡ onDecoded (storeOf a (inSet (now (free .entry))) (afterHead heads size (unitAt (now (held .entry))))) (storing t (now (words .entry))) d
         ⌝ }
 {
     let Decoded::Whole(s) = d else {
@@ -112,17 +147,28 @@ fn store(t: Tally, words: &mut [u64], a: u64, free: &[u64], held: &[u64], d: Dec
             piece: _,
             write: _,
         } => t,
-        Step::Map { map, word, value } => store_word(t, words, a, free, held, map, word, value),
+        Step::Map { map, word, value } => {
+            store_word(t, words, a, free, heads, size, held, map, word, value)
+        }
         Step::Link { chunk: _, value: _ } => t,
         Step::Fence => t,
     }
 }
 
-// The pass over a whole plan: n words of the map a are to come, each with the unit of its piece.
-fn store_all(plan: &[u8], n: u32, words: &mut [u64], a: u64, free: &[u64], held: &[u64]) -> Tally
+// The pass over a whole plan: n words of the map a are to come, each with what it is to hold.
+fn store_all(
+    plan: &[u8],
+    n: u32,
+    words: &mut [u64],
+    a: u64,
+    free: &[u64],
+    heads: u32,
+    size: u64,
+    held: &[u64],
+) -> Tally
     ensures { λ r. ⌜
         storing r (now (words .exit))
-        ≡ fold (storeOf a (inSet (now (free .entry))) (unitAt (now (held .entry)))) (storing (expecting n) (now (words .entry)))
+        ≡ fold (storeOf a (inSet (now (free .entry))) (afterHead heads size (unitAt (now (held .entry))))) (storing (expecting n) (now (words .entry)))
         (stepsOf (now (plan .entry)))
         ⌝ }
 {
@@ -134,18 +180,28 @@ fn store_all(plan: &[u8], n: u32, words: &mut [u64], a: u64, free: &[u64], held:
     let mut at = 0;
     while at < count {
         let d = decode_at(plan, at);
-        t = store(t, words, a, free, held, d);
+        t = store(t, words, a, free, heads, size, held, d);
         at += 1;
     }
     t
 }
 
 // How many words of a map a request's plan stores.
-fn stored_words(p: u32, request: Request) -> u32
-    ensures { λ r. ⌜ (r ≡ storedWords p request) × (r ≤ p) ⌝ }
+fn stored_words(words: u32, request: Request) -> u32
+    ensures { λ r. ⌜ (r ≡ storedWords words request) × (r ≤ words) ⌝ }
 {
     match request {
-        Request::Write { chunk: _, size: _ } => p,
+        Request::Write { chunk: _, size: _ } => words,
+        Request::Discard { chunk: _ } => 0,
+    }
+}
+
+// A write's compressed size; 0 for a discard.
+fn size_of(request: Request) -> u64
+    ensures { λ r. ⌜ r ≡ sizeOf request ⌝ }
+{
+    match request {
+        Request::Write { chunk: _, size } => size,
         Request::Discard { chunk: _ } => 0,
     }
 }
@@ -153,18 +209,21 @@ fn stored_words(p: u32, request: Request) -> u32
 // Whether a plan keeps rule 3, a being its map and the units of its pieces being held.
 pub fn keeps_rule3(
     plan: &[u8],
-    p: u32,
+    g: Shape,
     request: Request,
     a: u64,
     free: &[u64],
     held: &[u64],
 ) -> bool
-    requires { ⌜ (p ≤ 16) × (a ≡ planMap (stepsOf (now plan))) × Held (now held) (stepsOf (now plan)) ⌝ }
-    ensures { λ r. ⌜ r ≡ rule3 p (inSet (now (free .entry))) request (stepsOf (now (plan .entry))) ⌝ }
+    requires { ⌜ Limits g ⌝ }
+    requires { ⌜ (a ≡ planMap (stepsOf (now plan))) × Held (now held) (stepsOf (now plan)) ⌝ }
+    ensures { λ r. ⌜ r ≡ rule3 g (inSet (now (free .entry))) request (stepsOf (now (plan .entry))) ⌝ }
 {
-    let n = stored_words(p, request);
+    let n = stored_words(map_words(g), request);
+    let heads = head(g);
+    let size = size_of(request);
     let mut words = [0u64; SLOT_WORDS];
     fill(&mut words, n as usize);
-    let t = store_all(plan, n, &mut words, a, free, held);
+    let t = store_all(plan, n, &mut words, a, free, heads, size, held);
     complete(t)
 }

@@ -26,11 +26,11 @@ module _ (kn : Known) (r : Request) (plan : List ℕ) where
     broken-2 e = simp (e1, e)
 
     module _ (e2 : rule2 (kn .unitFree) r (stepsOf plan) ≡ true) where
-      pub broken-3 : rule3 (kn .shape .p) (kn .mapFree) r (stepsOf plan) ≡ false → 3 ≡ brokenRule kn r plan
+      pub broken-3 : rule3 (kn .shape) (kn .mapFree) r (stepsOf plan) ≡ false → 3 ≡ brokenRule kn r plan
       unfolding brokenRule
       broken-3 e = simp (e1, e2, e)
 
-      module _ (e3 : rule3 (kn .shape .p) (kn .mapFree) r (stepsOf plan) ≡ true) where
+      module _ (e3 : rule3 (kn .shape) (kn .mapFree) r (stepsOf plan) ≡ true) where
         pub broken-4 : rule4 (kn .chunkMapped) r (stepsOf plan) ≡ false → 4 ≡ brokenRule kn r plan
         unfolding brokenRule
         broken-4 e = simp (e1, e2, e3, e)

@@ -7,9 +7,11 @@ use native.Mathlib.Omega.{arith}
 use borrow.Author.Tests.{ltb-true}
 use lib.Dec.{eqb, ltb}
 use Rattle.search.specs.Search.{below, any, member}
-use Rattle.layout.specs.Layout.{shapeOf, linkOf}
+use Rattle.layout.specs.Layout.{isUnit, shapeOf, linkOf}
+use Rattle.layout.proofs.Limits.{unit-below as below-n}
 use Rattle.image.specs.Soundness.{mapped, unitsOf}
 use Rattle.image.specs.Free.{freeUnit, freeMap}
+use Rattle.image.specs.Loading.{unitSetWords, mapSetWords}
 use Rattle.bitset.specs.Bits.{bitSet, inSet}
 use Rattle.bitset.proofs.Members.{in-whole}
 use Rattle.steps.specs.declared.Request.{Request}
@@ -18,24 +20,24 @@ use Rattle.rules.specs.Rules.{known, knownOf}
 use Rattle.search.proofs.Bools.{and-left}
 
 module _ (s : List ℕ) where
-  unit-below : shapeOf s .n ≤ 64 * 72 → (u : ℕ) → freeUnit s u ≡ true → u < 64 * 72
+  unit-below : shapeOf s .n ≤ 64 * unitSetWords → (u : ℕ) → freeUnit s u ≡ true → u < 64 * unitSetWords
   unfolding freeUnit
   unit-below few u h =
-      let b = ltb-true u (shapeOf s .n) (and-left (ltb u (shapeOf s .n)) (not (any (λ i. member u (unitsOf s i)) (below (shapeOf s .c)))) h) in
+      let b = below-n (shapeOf s) u (and-left (isUnit (shapeOf s) u) (not (any (λ i. member u (unitsOf s i)) (below (shapeOf s .c)))) h) in
       omega arith
 
-  map-below : shapeOf s .m ≤ 64 * 5 → (k : ℕ) → freeMap s k ≡ true → k < 64 * 5
+  map-below : shapeOf s .m ≤ 64 * mapSetWords → (k : ℕ) → freeMap s k ≡ true → k < 64 * mapSetWords
   unfolding freeMap
   map-below few k h =
       let b = ltb-true k (shapeOf s .m) (and-left (ltb k (shapeOf s .m)) (not (any (λ i. eqb (linkOf s i) k) (below (shapeOf s .c)))) h) in
       omega arith
 
   pub known-is :
-      (r : Request) (units maps : List ℕ) → shapeOf s .n ≤ 64 * 72 → shapeOf s .m ≤ 64 * 5 → units ≡ bitSet (freeUnit s) 72
-      → maps ≡ bitSet (freeMap s) 5
+      (r : Request) (units maps : List ℕ) → shapeOf s .n ≤ 64 * unitSetWords → shapeOf s .m ≤ 64 * mapSetWords → units ≡ bitSet (freeUnit s) unitSetWords
+      → maps ≡ bitSet (freeMap s) mapSetWords
       → known (shapeOf s) (inSet units) (inSet maps) (mapped s (chunkOf r)) ≡ knownOf s r
   known-is r units maps fewUnits fewMaps eu em =
-      let fu : inSet units ≡ freeUnit s = ap inSet eu ∙ in-whole (freeUnit s) 72 (unit-below fewUnits) in
+      let fu : inSet units ≡ freeUnit s = ap inSet eu ∙ in-whole (freeUnit s) unitSetWords (unit-below fewUnits) in
       let fm : inSet maps ≡ freeMap s = ap inSet em ∙ in-whole (freeMap s) 5 (map-below fewMaps) in
       ap (λ (f : ℕ → Bool). known (shapeOf s) f (inSet maps) (mapped s (chunkOf r))) fu
       ∙ ap (λ (f : ℕ → Bool). known (shapeOf s) (freeUnit s) f (mapped s (chunkOf r))) fm

@@ -9,6 +9,7 @@ use lib.Dec.{eqb, ltb}
 use borrow.Author.Tests.{eqb-true, eqb-false, ltb-true, ltb-false}
 use Rattle.search.proofs.Bools.{contradict, either}
 use Rattle.layout.specs.Layout.{mapWords}
+use Rattle.layout.specs.declared.Shape.{Shape}
 use Rattle.steps.specs.declared.Step.{Step}
 use Rattle.steps.specs.declared.Request.{Request}
 use Rattle.steps.specs.Steps.{stepsOf}
@@ -22,8 +23,8 @@ module _ (kn : Known) (r : Request) (plan : List ℕ) (some : 1 ≤ mapWords (kn
   abbrev xs : List Step
   xs = stepsOf plan
 
-  abbrev p : ℕ
-  p = mapWords (kn .shape)
+  abbrev g : Shape
+  g = kn .shape
 
   -- what the lowest rule broken says; 0 is none
   abbrev Says : ℕ → Type 0
@@ -47,13 +48,13 @@ module _ (kn : Known) (r : Request) (plan : List ℕ) (some : 1 ≤ mapWords (kn
       below-3 : (i : ℕ) → i < 3 → Rule kn r plan i
       below-3 = next 2 below-2 (rule2-told (kn .unitFree) xs r e2)
 
-      module _ (e3 : rule3 p (kn .mapFree) r xs ≡ true) where
+      module _ (e3 : rule3 g (kn .mapFree) r xs ≡ true) where
         below-4 : (i : ℕ) → i < 4 → Rule kn r plan i
-        below-4 = next 3 below-3 (rule3-told (kn .mapFree) xs p (kn .unitFree) r e2 e3)
+        below-4 = next 3 below-3 (rule3-told (kn .mapFree) xs g (kn .unitFree) r e2 e3)
 
         module _ (e4 : rule4 (kn .chunkMapped) r xs ≡ true) where
           below-5 : (i : ℕ) → i < 5 → Rule kn r plan i
-          below-5 = next 4 below-4 (rule4-told xs p some (kn .mapFree) r (kn .chunkMapped) e3 e4)
+          below-5 = next 4 below-4 (rule4-told xs g some (kn .mapFree) r (kn .chunkMapped) e3 e4)
 
           kept : rule5 (kn .chunkMapped) r xs ≡ true → KeepsAll kn r plan
           kept e5 zero = tt
@@ -74,19 +75,19 @@ module _ (kn : Known) (r : Request) (plan : List ℕ) (some : 1 ≤ mapWords (kn
         by-4 : (b : Bool) → rule4 (kn .chunkMapped) r xs ≡ b → Says (brokenRule kn r plan)
         by-4 true e = by-5 e (rule5 (kn .chunkMapped) r xs) refl
         by-4 false e = subst Says (broken-4 kn r plan e1 e2 e3 e) (record {
-          broken = λ k. contradict (rule4-tested xs p some (kn .mapFree) r (kn .chunkMapped) e3 k) e;
+          broken = λ k. contradict (rule4-tested xs g some (kn .mapFree) r (kn .chunkMapped) e3 k) e;
           lower = below-4;
         })
 
-      by-3 : (b : Bool) → rule3 p (kn .mapFree) r xs ≡ b → Says (brokenRule kn r plan)
+      by-3 : (b : Bool) → rule3 g (kn .mapFree) r xs ≡ b → Says (brokenRule kn r plan)
       by-3 true e = by-4 e (rule4 (kn .chunkMapped) r xs) refl
       by-3 false e = subst Says (broken-3 kn r plan e1 e2 e) (record {
-        broken = λ k. contradict (rule3-tested (kn .mapFree) xs p (kn .unitFree) r e2 k) e;
+        broken = λ k. contradict (rule3-tested (kn .mapFree) xs g (kn .unitFree) r e2 k) e;
         lower = below-3;
       })
 
     by-2 : (b : Bool) → rule2 (kn .unitFree) r xs ≡ b → Says (brokenRule kn r plan)
-    by-2 true e = by-3 e (rule3 p (kn .mapFree) r xs) refl
+    by-2 true e = by-3 e (rule3 g (kn .mapFree) r xs) refl
     by-2 false e =
         subst Says (broken-2 kn r plan e1 e) (record { broken = λ k. contradict (rule2-tested (kn .unitFree) xs r k) e; lower = below-2 })
 

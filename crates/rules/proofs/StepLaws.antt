@@ -1,20 +1,23 @@
 -- A property of every step of a plan, and what the checker's lists of pieces, units, maps, words and links tell of each step.
-use Prim.Native.Nat.{ℕ, suc, _%_, _<_, _≤_}
+use Prim.Native.Nat.{ℕ, suc, _+_, _*_, _%_, _<_, _≤_}
 use mathlib.Core.Path.{_≡_, refl, sym, ap, _∙_, subst}
-use mathlib.Core.Logic.{_⊎_, inl, inr, _≢_}
+use mathlib.Core.Logic.{_⊎_, inl, inr, _≢_, ⊎-elim}
 use mathlib.Core.Bool.{Bool, true, false, _&&_, cond}
 use mathlib.Core.List.{List, [], _∷_, map}
 use native.Mathlib.Omega.{arith}
 use lib.ListN.{length}
 use lib.Dec.{eqb, ltb, leb}
-use borrow.Author.Tests.{eqb-true, eqb-false, eq-eqb, ne-eqb, ltb-true}
+use borrow.Author.Tests.{eqb-true, eqb-false, eq-eqb, ne-eqb, ltb-true, lt-ltb, leb-true}
 use Rattle.layout.specs.declared.Shape.{Shape}
 use Rattle.search.specs.Search.{below, all, member, distinct}
-use Rattle.layout.specs.Layout.{X, mapWords}
+use Rattle.layout.specs.Layout.{isSize, maxChunkBytes, X, unitBytes, head, mapWords}
+use Rattle.layout.specs.Shaped.{Limits}
+use Rattle.layout.proofs.Limits.{units-high}
 use Rattle.search.proofs.Bools.{contradict, either, and-three, and-left, and-right, cond-true, cond-false}
 use Rattle.search.proofs.Members.{all-at, member-nil, member-cons, member-head, member-tail}
 use Rattle.search.proofs.Distinct.{distinct-head, distinct-tail}
 use Rattle.steps.specs.declared.Value.{Value}
+use Rattle.steps.specs.declared.Value.the-variants.{Number, Absent}
 use Rattle.steps.specs.declared.Step.{Step}
 use Rattle.steps.specs.declared.Step.the-variants.{Data, Map, Link, Fence}
 use Rattle.steps.specs.declared.Decoded.{Decoded}
@@ -24,7 +27,7 @@ use Rattle.steps.specs.Encodable.{Each}
 use Rattle.search.proofs.Ranges.{below-member}
 use Rattle.rules.specs.Reading.{At}
 use Rattle.rules.proofs.Places.{step-told, each-place, every-at, collect-in, at-length}
-use Rattle.rules.specs.Rules.{every, mapFits, collect, wordIn, unitIn, pieceIn, linkIn, linkedIn, inRange, wholeInRange, rule1, maxSteps, pieces, units, words, links, linked, unitOf, mapsFit, isNone}
+use Rattle.rules.specs.Rules.{every, mapFits, collect, wordIn, unitIn, pieceIn, linkIn, linkedIn, valueBelow, wordInRange, inRange, wholeInRange, rule1, maxSteps, pieces, units, words, links, linked, unitOf, mapsFit, isNone}
 
 -- a step keeps rule 1
 abbrev pub InRange : Shape → Step → Type 0
@@ -236,10 +239,24 @@ words-below g (Data u i wr ∷ xs) h j m = words-below g xs (h .1) j m
 words-below g (Map k i v ∷ xs) h j m = go (words-below g xs (h .1) j) (member-cons j i (words xs) m)
   where
     go : (member j (words xs) ≡ true → j < mapWords g) → (j ≡ i) ⊎ (member j (words xs) ≡ true) → j < mapWords g
-    go rest (inl e) = let b : i < mapWords g = ltb-true i (mapWords g) (and-right (ltb k (g .m)) (ltb i (mapWords g)) (and-left (ltb k (g .m) && ltb i (mapWords g)) _ (h .0))) in omega arith
+    go rest (inl e) = let b : i < mapWords g = ltb-true i (mapWords g) (and-right (ltb k (g .m)) (ltb i (mapWords g)) (and-left (ltb k (g .m) && ltb i (mapWords g)) (wordInRange g i v) (h .0))) in omega arith
     go rest (inr q) = rest q
 words-below g (Link i v ∷ xs) h j m = words-below g xs (h .1) j m
 words-below g (Fence ∷ xs) h j m = words-below g xs (h .1) j m
+
+-- a value that a MAP step in range stores, a size or a unit, is small
+pub word-small : (g : Shape) (j : ℕ) (v : Value) → Limits g → wordInRange g j v ≡ true → valueBelow (maxChunkBytes + 1) v ≡ true
+unfolding wordInRange
+word-small g j Absent l h = refl
+word-small g j (Number w) l h =
+    ⊎-elim
+    (λ q. let e = sym (cond-true (ltb j (head g)) (isSize g w) (ltb w (g .n)) q) ∙ h in
+    let a = leb-true w (g .p * unitBytes) (and-right (leb 1 w) (leb w (g .p * unitBytes)) e) in
+    lt-ltb w (maxChunkBytes + 1) (omega (arith, l .p-high)))
+    (λ q. let e = sym (cond-false (ltb j (head g)) (isSize g w) (ltb w (g .n)) q) ∙ h in
+    let a = ltb-true w (g .n) e in
+    lt-ltb w (maxChunkBytes + 1) (omega (arith, units-high g l)))
+    (either (ltb j (head g)))
 
 -- ---- the unit of a piece
 

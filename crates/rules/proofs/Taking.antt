@@ -18,6 +18,7 @@ use Rattle.bitset.proofs.BitSets.{in-past}
 use Rattle.bitset.proofs.Members.{in-whole}
 use Rattle.rules.specs.declared.Tally.{Tally}
 use Rattle.rules.specs.Passes.{expecting, counted, unmet}
+use Rattle.image.specs.Loading.{unitSetWords}
 
 -- ---- each once: none twice, and each in a set
 
@@ -62,11 +63,11 @@ module _ (ws : List ℕ) (u : ℕ) where
   still-in y h = put-in y (sym (ap (λ (f : ℕ → Bool). f y) in-removed) ∙ h)
 
 -- the numbers below n, n at most 16, before any was met
-pub in-unmet : (n : ℕ) → n ≤ 16 → inSet (unmet n) ≡ (λ j. ltb j n)
+pub in-unmet : (n : ℕ) → n ≤ 64 → inSet (unmet n) ≡ (λ j. ltb j n)
 in-unmet n small = in-whole (λ j. ltb j n) 1 (λ j h. let b = ltb-true j n h in omega arith)
 
 -- X is in no set that is kept as words
-pub not-X : (ws : List ℕ) → length ws ≤ 72 → (u : ℕ) → inSet ws u ≡ true → u ≡ X → ⊥
+pub not-X : (ws : List ℕ) → length ws ≤ unitSetWords → (u : ℕ) → inSet ws u ≡ true → u ≡ X → ⊥
 not-X ws few u h e = let b = in-limit ws u h in omega arith
 
 -- ---- the count of steps left to come

@@ -1,5 +1,5 @@
 -- Rules 1 to 4 to read against what is computed, both ways. Rule 3 is compared where rule 2 is kept, rule 4 where rule 3 is.
-use Prim.Native.Nat.{ℕ, zero, suc, _%_, _<_, _≤_}
+use Prim.Native.Nat.{ℕ, zero, suc, _+_, _-_, _*_, _%_, _<_, _≤_}
 use mathlib.Core.Path.{_≡_, refl, sym, ap, _∙_, subst}
 use mathlib.Core.Logic.{⊎-elim}
 use mathlib.Core.Bool.{Bool, true, false, _&&_}
@@ -7,17 +7,18 @@ use mathlib.Core.List.{List, [], _∷_, map}
 use native.Mathlib.Omega.{arith}
 use lib.ListN.{length}
 use lib.Dec.{eqb, ltb, leb}
-use borrow.Author.Tests.{eqb-true, eq-eqb, ltb-true, ltb-false, lt-ltb, leb-true, le-leb}
+use borrow.Author.Tests.{eqb-true, eq-eqb, ltb-true, ltb-false, lt-ltb, le-ltb, leb-true, le-leb}
 use Rattle.search.specs.Search.{below, all, member, distinct, keep, firstOr}
 use Rattle.search.specs.Sets.{without}
-use Rattle.search.proofs.Bools.{contradict, either, is-false, and-left, and-right, and-intro, and-three, not-of-true, and-false-right}
+use Rattle.search.proofs.Bools.{contradict, either, is-false, cond-true, cond-false, and-left, and-right, and-intro, and-three, not-of-true, and-false-right}
 use Rattle.search.proofs.Members.{member-nil, member-cons, member-head, all-at, all-intro, first-member}
 use Rattle.search.proofs.Distinct.{distinct-later, distinct-apart}
 use Rattle.search.proofs.Ranges.{below-member, member-below, all-below-intro}
 use Rattle.search.proofs.Kept.{keep-none}
 use Rattle.search.proofs.Counting.{covers, unlisted-exactly}
 use Rattle.layout.specs.declared.Shape.{Shape}
-use Rattle.layout.specs.Layout.{X, mapWords}
+use Rattle.layout.specs.Layout.{X, unitBytes, unitsFor, head, mapWords, afterHead}
+use Rattle.layout.proofs.Heads.{in-head, past-head, after-head}
 use Rattle.steps.specs.declared.Value.{Value}
 use Rattle.steps.specs.declared.Value.the-variants.{Number, Absent}
 use Rattle.steps.specs.declared.Step.{Step}
@@ -26,9 +27,9 @@ use Rattle.steps.specs.declared.Decoded.{Decoded}
 use Rattle.steps.specs.declared.Decoded.the-variants.{Whole, Malformed}
 use Rattle.steps.specs.declared.Request.{Request}
 use Rattle.steps.specs.declared.Request.the-variants.{Write, Discard}
-use Rattle.steps.specs.Steps.{stepBytes, wholeSteps, decodeAt, needOf, unitsFor, wordOf}
-use Rattle.rules.specs.Rules.{maxSteps, valueBelow, inRange, wholeInRange, rule1, collect, pieceIn, unitIn, mapIn, wordIn, linkIn, linkedIn, pieces, units, maps, words, links, linked, unitOf, wordFor, planMap, onceEach, rule2, mapFits, mapsFit, rule3, linksAre, rule4}
-use Rattle.rules.specs.Reading.{At, ValueBelow, Bounded, Rule1, Pieces, Rule2, MapWords, Rule3, OneLink, Rule4}
+use Rattle.steps.specs.Steps.{stepBytes, wholeSteps, decodeAt, needOf, wordOf}
+use Rattle.rules.specs.Rules.{maxSteps, valueBelow, sizeValue, wordInRange, inRange, wholeInRange, rule1, collect, pieceIn, unitIn, mapIn, wordIn, linkIn, linkedIn, pieces, units, maps, words, links, linked, unitOf, wordFor, planMap, onceEach, rule2, mapFits, mapsFit, rule3, linksAre, rule4}
+use Rattle.rules.specs.Reading.{At, ValueBelow, SizeValue, Bounded, Rule1, Pieces, Rule2, MapWords, Rule3, OneLink, Rule4}
 use Rattle.rules.proofs.Places.{at-one, every-at, every-intro, collect-in, collect-at, collect-once, collect-distinct, at-length, single-place, collect-none, collect-few}
 use Rattle.rules.proofs.StepLaws.{unitOf-none, unitOf-here, unitOf-later}
 use Rattle.rules.proofs.Facts.{once}
@@ -43,12 +44,36 @@ value-tested : (n : ℕ) (v : Value) → ValueBelow n v → valueBelow n v ≡ t
 value-tested n (Number w) h = lt-ltb w n h
 value-tested n Absent h = refl
 
+size-told : (g : Shape) (v : Value) → sizeValue g v ≡ true → SizeValue g v
+size-told g (Number w) h =
+    let p = g .p * unitBytes in (leb-true 1 w (and-left (leb 1 w) (leb w p) h), leb-true w p (and-right (leb 1 w) (leb w p) h))
+size-told g Absent h = contradict h refl
+
+size-tested : (g : Shape) (v : Value) → SizeValue g v → sizeValue g v ≡ true
+size-tested g (Number w) h = let p = g .p * unitBytes in and-intro (leb 1 w) (leb w p) (le-leb 1 w (h .0)) (le-leb w p (h .1))
+size-tested g Absent h = absurd h
+
+word-told : (g : Shape) (j : ℕ) (v : Value) → wordInRange g j v ≡ true → (j < head g → SizeValue g v) × (head g ≤ j → ValueBelow (g .n) v)
+unfolding wordInRange
+word-told g j v h = (
+  λ l. size-told g v (sym (cond-true (ltb j (head g)) (sizeValue g v) (valueBelow (g .n) v) (lt-ltb j (head g) l)) ∙ h),
+  λ l. value-told (g .n) v (sym (cond-false (ltb j (head g)) (sizeValue g v) (valueBelow (g .n) v) (le-ltb j (head g) l)) ∙ h),
+)
+
+word-tested : (g : Shape) (j : ℕ) (v : Value) → (j < head g → SizeValue g v) → (head g ≤ j → ValueBelow (g .n) v) → wordInRange g j v ≡ true
+unfolding wordInRange
+word-tested g j v a b =
+    ⊎-elim (λ l. cond-true (ltb j (head g)) (sizeValue g v) (valueBelow (g .n) v) l ∙ size-tested g v (a (ltb-true j (head g) l)))
+    (λ l. cond-false (ltb j (head g)) (sizeValue g v) (valueBelow (g .n) v) l ∙ value-tested (g .n) v (b (ltb-false j (head g) l)))
+    (either (ltb j (head g)))
+
 bounds-told : (g : Shape) (x : Step) → inRange g x ≡ true → Bounded g x
 bounds-told g (Data u j w) h =
     let a = and-three (ltb u (g .n)) (ltb j (g .p)) (eqb w 0) h in (ltb-true u (g .n) (a .0), ltb-true j (g .p) (a .1), eqb-true w 0 (a .2))
 bounds-told g (Map k j v) h =
-    let a = and-three (ltb k (g .m)) (ltb j (mapWords g)) (valueBelow (g .n) v) h in
-    (ltb-true k (g .m) (a .0), ltb-true j (mapWords g) (a .1), value-told (g .n) v (a .2))
+    let a = and-three (ltb k (g .m)) (ltb j (mapWords g)) (wordInRange g j v) h in
+    let w = word-told g j v (a .2) in
+    (ltb-true k (g .m) (a .0), ltb-true j (mapWords g) (a .1), w .0, w .1)
 bounds-told g (Link i v) h =
     (ltb-true i (g .c) (and-left (ltb i (g .c)) (valueBelow (g .m) v) h), value-told (g .m) v (and-right (ltb i (g .c)) (valueBelow (g .m) v) h))
 bounds-told g Fence h = tt
@@ -58,8 +83,8 @@ bounds-tested g (Data u j w) h =
     and-intro (ltb u (g .n) && ltb j (g .p)) (eqb w 0) (and-intro (ltb u (g .n)) (ltb j (g .p)) (lt-ltb u (g .n) (h .0)) (lt-ltb j (g .p) (h .1)))
     (eq-eqb w 0 (h .2))
 bounds-tested g (Map k j v) h =
-    and-intro (ltb k (g .m) && ltb j (mapWords g)) (valueBelow (g .n) v)
-    (and-intro (ltb k (g .m)) (ltb j (mapWords g)) (lt-ltb k (g .m) (h .0)) (lt-ltb j (mapWords g) (h .1))) (value-tested (g .n) v (h .2))
+    and-intro (ltb k (g .m) && ltb j (mapWords g)) (wordInRange g j v)
+    (and-intro (ltb k (g .m)) (ltb j (mapWords g)) (lt-ltb k (g .m) (h .0)) (lt-ltb j (mapWords g) (h .1))) (word-tested g j v (h .2) (h .3))
 bounds-tested g (Link i v) h = and-intro (ltb i (g .c)) (valueBelow (g .m) v) (lt-ltb i (g .c) (h .0)) (value-tested (g .m) v (h .1))
 bounds-tested g Fence h = refl
 
@@ -269,32 +294,38 @@ on-plan-map xs i m j v h =
     (r .0, d .0, d .1, subst (At xs (r .0)) (d .2) (r .2))
 
 module _ (free : ℕ → Bool) (xs : List Step) where
-  module _ (p k : ℕ) (ps : onceEach k (pieces xs) ≡ true) where
-    words-told : (onceEach p (words xs) && mapsFit (planMap xs) free (wordFor xs) xs) ≡ true → MapWords p k free xs
+  module _ (p heads size k : ℕ) (ps : onceEach k (pieces xs) ≡ true) where
+    abbrev word : ℕ → ℕ
+    word = afterHead heads size (λ j. unitOf j xs)
+
+    words-told : (onceEach p (words xs) && mapsFit (planMap xs) free word xs) ≡ true → MapWords p heads size k free xs
     unfolding wordIn mapFits
     words-told h =
-        let fits = mapsFit (planMap xs) free (wordFor xs) xs in
+        let fits = mapsFit (planMap xs) free word xs in
         let a = and-left (onceEach p (words xs)) fits h in
-        let f : (i m j : ℕ) (v : Value) → At xs i (Map m j v) → (eqb (planMap xs) m ≡ true) × (free m ≡ true) × (eqb (wordOf v) (unitOf j xs) ≡ true) =
+        let f : (i m j : ℕ) (v : Value) → At xs i (Map m j v) → (eqb (planMap xs) m ≡ true) × (free m ≡ true) × (eqb (wordOf v) (word j) ≡ true) =
         λ i m j v s.
-        and-three (eqb (planMap xs) m) (free m) (eqb (wordOf v) (unitOf j xs))
-        (every-at (mapFits (planMap xs) free (wordFor xs)) xs i (Map m j v) (and-right (onceEach p (words xs)) fits h) s) in
+        and-three (eqb (planMap xs) m) (free m) (eqb (wordOf v) (word j))
+        (every-at (mapFits (planMap xs) free word) xs i (Map m j v) (and-right (onceEach p (words xs)) fits h) s) in
         record {
           one-map = λ i i′ m m′ j j′ v v′ s t. sym (eqb-true (planMap xs) m (f i m j v s .0)) ∙ eqb-true (planMap xs) m′ (f i′ m′ j′ v′ t .0);
           free-map = λ i m j v s. f i m j v s .1;
           each = λ j l. word-at xs j (once-there p (words xs) a j l);
           once = λ i i′ m m′ j v v′ s t. collect-once wordIn xs i i′ (Map m j v) (Map m′ j v′) j (once p (words xs) a .1) s t (here j) (here j);
           no-other = λ i m j v s. once-below p (words xs) a j (collect-in wordIn xs i (Map m j v) j s (here j));
+          sizes = λ i m j v l s. eqb-true (wordOf v) (word j) (f i m j v s .2) ∙ in-head heads size (λ a. unitOf a xs) j l;
           units = λ i i′ m j u w v l s t.
-              eqb-true (wordOf v) (unitOf j xs) (f i m j v s .2) ∙ unit-at xs i′ u j w (once k (pieces xs) ps .1) t;
+              eqb-true (wordOf v) (word (heads + j)) (f i m (heads + j) v s .2) ∙ after-head heads size (λ a. unitOf a xs) j
+              ∙ unit-at xs i′ u j w (once k (pieces xs) ps .1) t;
           rest = λ i m j v l s.
-              eqb-true (wordOf v) (unitOf j xs) (f i m j v s .2)
+              eqb-true (wordOf v) (word (heads + j)) (f i m (heads + j) v s .2)
+              ∙ after-head heads size (λ a. unitOf a xs) j
               ∙ unitOf-none j xs (λ q. let b = once-below k (pieces xs) ps j q in omega arith);
         }
 
-    module _ (h : MapWords p k free xs) where
-      stores : (i m j : ℕ) (v : Value) → At xs i (Map m j v) → wordOf v ≡ unitOf j xs
-      stores i m j v s =
+    module _ (h : MapWords p heads size k free xs) where
+      unit-stored : (i m j : ℕ) (v : Value) → At xs i (Map m (heads + j) v) → wordOf v ≡ unitOf j xs
+      unit-stored i m j v s =
           ⊎-elim
           (λ l. let b = ltb-true j k l in
           let r = piece-at xs j (once-there k (pieces xs) ps j b) in
@@ -303,52 +334,61 @@ module _ (free : ℕ → Bool) (xs : List Step) where
           h .rest i m j v (omega arith) s ∙ sym (unitOf-none j xs (λ q. let o = once-below k (pieces xs) ps j q in omega arith)))
           (either (ltb j k))
 
-      fits : (i : ℕ) (x : Step) → At xs i x → mapFits (planMap xs) free (wordFor xs) x ≡ true
+      stores : (i m j : ℕ) (v : Value) → At xs i (Map m j v) → wordOf v ≡ word j
+      stores i m j v s =
+          ⊎-elim
+          (λ l. let b = ltb-true j heads l in h .sizes i m j v b s ∙ sym (in-head heads size (λ a. unitOf a xs) j b))
+          (λ l. let b = ltb-false j heads l in
+          unit-stored i m (j - heads) v (subst (λ (a : ℕ). At xs i (Map m a v)) (omega arith) s) ∙ sym (past-head heads size (λ a. unitOf a xs) j b))
+          (either (ltb j heads))
+
+      fits : (i : ℕ) (x : Step) → At xs i x → mapFits (planMap xs) free word x ≡ true
       unfolding mapFits
       fits i (Data u j w) s = refl
       fits i (Map m j v) s =
           let r = on-plan-map xs i m j v s in
-          and-intro (eqb (planMap xs) m && free m) (eqb (wordOf v) (unitOf j xs))
+          and-intro (eqb (planMap xs) m && free m) (eqb (wordOf v) (word j))
           (and-intro (eqb (planMap xs) m) (free m) (eq-eqb (planMap xs) m (h .one-map (r .0) i (planMap xs) m (r .1) j (r .2) v (r .3) s)) (h .free-map i m j v s))
-          (eq-eqb (wordOf v) (unitOf j xs) (stores i m j v s))
+          (eq-eqb (wordOf v) (word j) (stores i m j v s))
       fits i (Link c v) s = refl
       fits i Fence s = refl
 
-      words-tested : (onceEach p (words xs) && mapsFit (planMap xs) free (wordFor xs) xs) ≡ true
+      words-tested : (onceEach p (words xs) && mapsFit (planMap xs) free word xs) ≡ true
       unfolding wordIn
       words-tested =
           let d = collect-distinct wordIn (λ x. few x .2) xs (λ i j n x y s t m q.
           let a = word-in x n m in
           let b = word-in y n q in
           h .once i j (a .0) (b .0) n (a .1) (b .1) (subst (At xs i) (a .2) s) (subst (At xs j) (b .2) t)) in
-          and-intro (onceEach p (words xs)) (mapsFit (planMap xs) free (wordFor xs) xs)
+          and-intro (onceEach p (words xs)) (mapsFit (planMap xs) free word xs)
           (once-tested p (words xs) d
           (λ j m. let r = word-at xs j m in h .no-other (r .0) (r .1) j (r .2) (r .3))
           (λ j l. let r = h .each j l in collect-in wordIn xs (r .0) (Map (r .1) j (r .2)) j (r .3) (here j)))
-          (every-intro (mapFits (planMap xs) free (wordFor xs)) xs fits)
+          (every-intro (mapFits (planMap xs) free word) xs fits)
 
-  module _ (p : ℕ) (free-unit : ℕ → Bool) where
+  module _ (g : Shape) (free-unit : ℕ → Bool) where
     placed : (r : Request) → rule2 free-unit r xs ≡ true → onceEach (needOf r) (pieces xs) ≡ true
     unfolding rule2
     placed r h = and-three (onceEach (needOf r) (pieces xs)) (distinct (units xs)) (all free-unit (units xs)) h .0
 
-    pub rule3-told : (r : Request) → rule2 free-unit r xs ≡ true → rule3 p free r xs ≡ true → Rule3 p free r xs
+    pub rule3-told : (r : Request) → rule2 free-unit r xs ≡ true → rule3 g free r xs ≡ true → Rule3 g free r xs
     unfolding rule3
-    rule3-told (Write c size) r2 h = words-told p (unitsFor size) (placed (Write c size) r2) h
-    rule3-told (Discard c) r2 h = λ i m j v s. let b = words-told 0 0 (placed (Discard c) r2) h .no-other i m j v s in omega arith
+    rule3-told (Write c size) r2 h = words-told (mapWords g) (head g) size (unitsFor size) (placed (Write c size) r2) h
+    rule3-told (Discard c) r2 h = λ i m j v s. let b = words-told 0 (head g) 0 0 (placed (Discard c) r2) h .no-other i m j v s in omega arith
 
-    pub rule3-tested : (r : Request) → rule2 free-unit r xs ≡ true → Rule3 p free r xs → rule3 p free r xs ≡ true
+    pub rule3-tested : (r : Request) → rule2 free-unit r xs ≡ true → Rule3 g free r xs → rule3 g free r xs ≡ true
     unfolding rule3
-    rule3-tested (Write c size) r2 h = words-tested p (unitsFor size) (placed (Write c size) r2) h
+    rule3-tested (Write c size) r2 h = words-tested (mapWords g) (head g) size (unitsFor size) (placed (Write c size) r2) h
     rule3-tested (Discard c) r2 h =
-        words-tested 0 0 (placed (Discard c) r2) (record {
+        words-tested 0 (head g) 0 0 (placed (Discard c) r2) (record {
           one-map = λ i i′ m m′ j j′ v v′ s t. absurd (h i m j v s);
           free-map = λ i m j v s. absurd (h i m j v s);
           each = λ j l. absurd (omega arith);
           once = λ i i′ m m′ j v v′ s t. absurd (h i m j v s);
           no-other = λ i m j v s. absurd (h i m j v s);
-          units = λ i i′ m j u w v l s t. absurd (h i m j v s);
-          rest = λ i m j v l s. absurd (h i m j v s);
+          sizes = λ i m j v l s. absurd (h i m j v s);
+          units = λ i i′ m j u w v l s t. absurd (h i m (head g + j) v s);
+          rest = λ i m j v l s. absurd (h i m (head g + j) v s);
         })
 
 -- ---- rule 4
@@ -420,22 +460,22 @@ module _ (xs : List Step) where
       rw (collect-none linkIn xs (λ i x s. none-linked h i x s .0), collect-none linkedIn xs (λ i x s. none-linked h i x s .1)) refl
 
   -- a write's map has words, so that the plan is on a map
-  module _ (p : ℕ) (some : 1 ≤ p) (free : ℕ → Bool) where
-    has-map : (c size : ℕ) → rule3 p free (Write c size) xs ≡ true → (i : ℕ) × (j : ℕ) × (v : Value) × At xs i (Map (planMap xs) j v)
+  module _ (g : Shape) (some : 1 ≤ mapWords g) (free : ℕ → Bool) where
+    has-map : (c size : ℕ) → rule3 g free (Write c size) xs ≡ true → (i : ℕ) × (j : ℕ) × (v : Value) × At xs i (Map (planMap xs) j v)
     unfolding rule3
     has-map c size h =
-        let a = and-left (onceEach p (words xs)) (mapsFit (planMap xs) free (wordFor xs) xs) h in
-        let r = word-at xs 0 (once-there p (words xs) a 0 (omega arith)) in
+        let a = and-left (onceEach (mapWords g) (words xs)) (mapsFit (planMap xs) free (wordFor g size xs) xs) h in
+        let r = word-at xs 0 (once-there (mapWords g) (words xs) a 0 (omega arith)) in
         on-plan-map xs (r .0) (r .1) 0 (r .2) (r .3)
 
-    all-on-map : (c size : ℕ) → rule3 p free (Write c size) xs ≡ true → (i m j : ℕ) (v : Value) → At xs i (Map m j v) → planMap xs ≡ m
+    all-on-map : (c size : ℕ) → rule3 g free (Write c size) xs ≡ true → (i m j : ℕ) (v : Value) → At xs i (Map m j v) → planMap xs ≡ m
     unfolding rule3 mapFits
     all-on-map c size h i m j v s =
-        let fits = mapsFit (planMap xs) free (wordFor xs) xs in
-        let f = every-at (mapFits (planMap xs) free (wordFor xs)) xs i (Map m j v) (and-right (onceEach p (words xs)) fits h) s in
-        eqb-true (planMap xs) m (and-three (eqb (planMap xs) m) (free m) (eqb (wordOf v) (unitOf j xs)) f .0)
+        let fits = mapsFit (planMap xs) free (wordFor g size xs) xs in
+        let f = every-at (mapFits (planMap xs) free (wordFor g size xs)) xs i (Map m j v) (and-right (onceEach (mapWords g) (words xs)) fits h) s in
+        eqb-true (planMap xs) m (and-three (eqb (planMap xs) m) (free m) (eqb (wordOf v) (wordFor g size xs j)) f .0)
 
-    pub rule4-told : (r : Request) (b : Bool) → rule3 p free r xs ≡ true → rule4 b r xs ≡ true → Rule4 r b xs
+    pub rule4-told : (r : Request) (b : Bool) → rule3 g free r xs ≡ true → rule4 b r xs ≡ true → Rule4 r b xs
     unfolding rule4
     rule4-told (Write c size) b r3 h = (
       link-alone 1 c (planMap xs) h refl,
@@ -445,7 +485,7 @@ module _ (xs : List Step) where
     rule4-told (Discard c) false r3 h =
         λ i a v s. let l = at-length linkIn xs i (Link a v) s in let e = parts 0 c X h .0 in let o = one-link a v in omega arith
 
-    pub rule4-tested : (r : Request) (b : Bool) → rule3 p free r xs ≡ true → Rule4 r b xs → rule4 b r xs ≡ true
+    pub rule4-tested : (r : Request) (b : Bool) → rule3 g free r xs ≡ true → Rule4 r b xs → rule4 b r xs ≡ true
     unfolding rule4
     rule4-tested (Write c size) b r3 h =
         let m = has-map c size r3 in

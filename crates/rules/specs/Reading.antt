@@ -1,5 +1,5 @@
--- The five rules to read, in document 01's words: what a reader must believe of the checker. proofs/Theorems.antt has that they are what is computed, both ways.
-use Prim.Native.Nat.{ℕ, zero, suc, _*_, _<_, _≤_}
+-- The five rules to read, in document 01's words: what a reader must believe of the checker. checker/proofs/Theorems.antt has that they are what is computed, both ways.
+use Prim.Native.Nat.{ℕ, zero, suc, _+_, _*_, _<_, _≤_}
 use mathlib.Core.Path.{_≡_}
 use mathlib.Core.Bool.{Bool, true, false}
 use mathlib.Core.List.{List, [], _∷_}
@@ -7,7 +7,7 @@ use lib.ListN.{length}
 use Rattle.layout.specs.declared.Shape.{Shape}
 use Rattle.layout.specs.declared.Refusal.{Refusal}
 use Rattle.layout.specs.declared.Refusal.the-variants.{Short, Foreign, Geometry, BadLink, BadMap, Shared, Range, Size, NoRoom, Small, BadPlan, BadAlarm}
-use Rattle.layout.specs.Layout.{X, unitBytes, mapWords, shapeOf}
+use Rattle.layout.specs.Layout.{X, unitBytes, unitsFor, head, mapWords, shapeOf}
 use Rattle.image.specs.Soundness.{Sound}
 use Rattle.image.specs.Rows.{Row}
 use Rattle.steps.specs.declared.Value.{Value}
@@ -17,7 +17,7 @@ use Rattle.steps.specs.declared.Step.the-variants.{Data, Map, Link, Fence}
 use Rattle.steps.specs.declared.Decoded.the-variants.{Whole}
 use Rattle.steps.specs.declared.Request.{Request}
 use Rattle.steps.specs.declared.Request.the-variants.{Write, Discard}
-use Rattle.steps.specs.Steps.{stepBytes, wholeSteps, decodeAt, stepsOf, unitsFor, chunkOf, wordOf}
+use Rattle.steps.specs.Steps.{stepBytes, wholeSteps, decodeAt, stepsOf, chunkOf, wordOf}
 use Rattle.rules.specs.declared.Checked.{Checked}
 use Rattle.rules.specs.declared.Checked.the-variants.{Accepted, Refused}
 use Rattle.rules.specs.Rules.{maxSteps, Known, knownOf}
@@ -35,10 +35,15 @@ abbrev pub ValueBelow : ℕ → Value → Type 0
 ValueBelow n (Number w) = w < n
 ValueBelow n Absent = Unit {0}
 
--- "units below N, pieces and words below P, maps below M, chunks below C"; "unused fields 0"
+-- "word 0 holds 1 to P·4,096 (rule 1)"
+abbrev pub SizeValue : Shape → Value → Type 0
+SizeValue g (Number w) = (1 ≤ w) × (w ≤ g .p * unitBytes)
+SizeValue g Absent = ⊥
+
+-- "units below N, pieces and words below P, maps below M, chunks below C"; "unused fields 0"; in edition 2 "MAP words run from 0 to P"
 abbrev pub Bounded : Shape → Step → Type 0
 Bounded g (Data u j w) = (u < g .n) × (j < g .p) × (w ≡ 0)
-Bounded g (Map k j v) = (k < g .m) × (j < mapWords g) × ValueBelow (g .n) v
+Bounded g (Map k j v) = (k < g .m) × (j < mapWords g) × (j < head g → SizeValue g v) × (head g ≤ j → ValueBelow (g .n) v)
 Bounded g (Link i v) = (i < g .c) × ValueBelow (g .m) v
 Bounded g Fence = Unit {0}
 
@@ -68,22 +73,25 @@ Rule2 free (Discard c) xs = (i u j w : ℕ) → At xs i (Data u j w) → ⊥
 
 -- ---- 3
 
-pub record MapWords (p k : ℕ) (free : ℕ → Bool) (xs : List Step) : Type 0 where
+-- a plan for a map of n words, of which `heads` stand before the units, for a write of `size` bytes in k pieces
+pub record MapWords (n heads size k : ℕ) (free : ℕ → Bool) (xs : List Step) : Type 0 where
   -- "all MAP steps on one free map"
   pub one-map : (i i′ m m′ j j′ : ℕ) (v v′ : Value) → At xs i (Map m j v) → At xs i′ (Map m′ j′ v′) → m ≡ m′
   pub free-map : (i m j : ℕ) (v : Value) → At xs i (Map m j v) → free m ≡ true
-  -- "each word 0 to P-1 once", and no other
-  pub each : (j : ℕ) → j < p → (i : ℕ) × (m : ℕ) × (v : Value) × At xs i (Map m j v)
+  -- "each word 0 to P-1 once", in edition 2 0 to P, and no other
+  pub each : (j : ℕ) → j < n → (i : ℕ) × (m : ℕ) × (v : Value) × At xs i (Map m j v)
   pub once : (i i′ m m′ j : ℕ) (v v′ : Value) → At xs i (Map m j v) → At xs i′ (Map m′ j v′) → i ≡ i′
-  pub no-other : (i m j : ℕ) (v : Value) → At xs i (Map m j v) → j < p
-  -- "word j is piece j's unit for j below k, else X"
-  pub units : (i i′ m j u w : ℕ) (v : Value) → j < k → At xs i (Map m j v) → At xs i′ (Data u j w) → wordOf v ≡ u
-  pub rest : (i m j : ℕ) (v : Value) → k ≤ j → At xs i (Map m j v) → wordOf v ≡ X
+  pub no-other : (i m j : ℕ) (v : Value) → At xs i (Map m j v) → j < n
+  -- in edition 2 word 0 holds "the request's size (rule 3)"
+  pub sizes : (i m j : ℕ) (v : Value) → j < heads → At xs i (Map m j v) → wordOf v ≡ size
+  -- "word j is piece j's unit for j below k, else X"; in edition 2 "word j+1"
+  pub units : (i i′ m j u w : ℕ) (v : Value) → j < k → At xs i (Map m (heads + j) v) → At xs i′ (Data u j w) → wordOf v ≡ u
+  pub rest : (i m j : ℕ) (v : Value) → k ≤ j → At xs i (Map m (heads + j) v) → wordOf v ≡ X
 
-abbrev pub Rule3 : ℕ → (ℕ → Bool) → Request → List Step → Type 0
-Rule3 p free (Write c size) xs = MapWords p (unitsFor size) free xs
+abbrev pub Rule3 : Shape → (ℕ → Bool) → Request → List Step → Type 0
+Rule3 g free (Write c size) xs = MapWords (mapWords g) (head g) size (unitsFor size) free xs
 -- "Discard: no MAP."
-Rule3 p free (Discard c) xs = (i m j : ℕ) (v : Value) → At xs i (Map m j v) → ⊥
+Rule3 g free (Discard c) xs = (i m j : ℕ) (v : Value) → At xs i (Map m j v) → ⊥
 
 -- ---- 4
 
@@ -137,7 +145,7 @@ abbrev pub Rule : Known → Request → List ℕ → ℕ → Type 0
 Rule kn r plan zero = Unit {0}
 Rule kn r plan (suc zero) = Rule1 (kn .shape) plan
 Rule kn r plan (suc (suc zero)) = Rule2 (kn .unitFree) r (stepsOf plan)
-Rule kn r plan (suc (suc (suc zero))) = Rule3 (mapWords (kn .shape)) (kn .mapFree) r (stepsOf plan)
+Rule kn r plan (suc (suc (suc zero))) = Rule3 (kn .shape) (kn .mapFree) r (stepsOf plan)
 Rule kn r plan (suc (suc (suc (suc zero)))) = Rule4 r (kn .chunkMapped) (stepsOf plan)
 Rule kn r plan (suc (suc (suc (suc (suc zero))))) = Rule5 r (kn .chunkMapped) (stepsOf plan)
 Rule kn r plan (suc (suc (suc (suc (suc (suc n)))))) = Unit {0}

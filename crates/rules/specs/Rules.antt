@@ -9,7 +9,7 @@ use Rattle.layout.specs.declared.Refusal.{Refusal}
 use Rattle.layout.specs.declared.Refusal.the-variants.{Range, Size, BadPlan}
 use Rattle.image.specs.Answers.{ifSound}
 use Rattle.search.specs.Search.{below, all, distinct, firstOr}
-use Rattle.layout.specs.Layout.{X, unitBytes, mapWords, shapeOf}
+use Rattle.layout.specs.Layout.{X, isSize, head, mapWords, afterHead, shapeOf}
 use Rattle.image.specs.Soundness.{mapped}
 use Rattle.image.specs.Verdicts.{verdict}
 use Rattle.image.specs.Free.{freeUnit, freeMap}
@@ -23,7 +23,7 @@ use Rattle.steps.specs.declared.Request.{Request}
 use Rattle.steps.specs.declared.Request.the-variants.{Write, Discard}
 use Rattle.rules.specs.declared.Checked.{Checked}
 use Rattle.rules.specs.declared.Checked.the-variants.{Accepted, Refused as Denied}
-use Rattle.steps.specs.Steps.{stepBytes, wholeSteps, decodeAt, stepsOf, chunkOf, needOf, wordOf}
+use Rattle.steps.specs.Steps.{stepBytes, wholeSteps, decodeAt, stepsOf, chunkOf, sizeOf, needOf, wordOf}
 
 -- "at most 64"
 abbrev pub maxSteps : ℕ
@@ -106,10 +106,10 @@ unitOf j (Map k i v ∷ xs) = unitOf j xs
 unitOf j (Link i v ∷ xs) = unitOf j xs
 unitOf j (Fence ∷ xs) = unitOf j xs
 
--- What word j of the new map holds: "word j is piece j's unit for j below k, else X". It has a name of its own, beside `unitOf`, because a later
--- edition's maps (request 4) change what word j holds.
-abbrev pub wordFor : List Step → ℕ → ℕ
-wordFor xs j = unitOf j xs
+-- What the words of the new map hold: "word j is piece j's unit for j below k, else X". In edition 2 "word 0 holds .. the request's size (rule 3), and word
+-- j+1 is piece j's unit or X".
+abbrev pub wordFor : Shape → ℕ → List Step → ℕ → ℕ
+wordFor g size xs = afterHead (head g) size (λ j. unitOf j xs)
 
 -- the map that a plan's MAP steps are on ("that map"), or X where it has none
 unfoldable pub planMap : List Step → ℕ
@@ -142,15 +142,23 @@ afterLink (Link i v ∷ xs) = xs
 afterLink (Fence ∷ xs) = afterLink xs
 
 -- ---- rule 1: "Whole steps, at most 64, of the four kinds; units below N, pieces and words below P, maps below M, chunks below C;
--- a MAP value below N or X, a LINK value below M or X; unused fields 0."
+-- a MAP value below N or X, a LINK value below M or X; unused fields 0." In edition 2 "MAP words run from 0 to P: word 0 holds 1 to P·4,096 (rule 1)".
 
 abbrev pub valueBelow : ℕ → Value → Bool
 valueBelow n (Number w) = ltb w n
 valueBelow n Absent = true
 
+abbrev pub sizeValue : Shape → Value → Bool
+sizeValue g (Number w) = isSize g w
+sizeValue g Absent = false
+
+-- a MAP value; in edition 2 "word 0 holds 1 to P·4,096 (rule 1)"
+unfoldable pub wordInRange : Shape → ℕ → Value → Bool
+wordInRange g j v = cond (ltb j (head g)) (sizeValue g v) (valueBelow (g .n) v)
+
 abbrev pub inRange : Shape → Step → Bool
 inRange g (Data u j w) = ltb u (g .n) && ltb j (g .p) && eqb w 0
-inRange g (Map k j v) = ltb k (g .m) && ltb j (mapWords g) && valueBelow (g .n) v
+inRange g (Map k j v) = ltb k (g .m) && ltb j (mapWords g) && wordInRange g j v
 inRange g (Link i v) = ltb i (g .c) && valueBelow (g .m) v
 inRange g Fence = true
 
@@ -175,6 +183,7 @@ unfoldable pub rule2 : (ℕ → Bool) → Request → List Step → Bool
 rule2 free r xs = onceEach (needOf r) (pieces xs) && distinct (units xs) && all free (units xs)
 
 -- ---- rule 3: "Write: all MAP steps on one free map, each word 0 to P-1 once; word j is piece j's unit for j below k, else X. Discard: no MAP."
+-- In edition 2 "MAP words run from 0 to P: word 0 holds .. the request's size (rule 3), and word j+1 is piece j's unit or X".
 
 -- a MAP step is on map a, a free one, and stores what its word is to hold
 unfoldable pub mapFits : ℕ → (ℕ → Bool) → (ℕ → ℕ) → Step → Bool
@@ -188,11 +197,11 @@ mapsFit a free word xs = every (mapFits a free word) xs
 
 -- how many words of a map a request's plan stores: all of them for a write, none for a discard
 abbrev pub storedWords : ℕ → Request → ℕ
-storedWords p (Write i size) = p
-storedWords p (Discard i) = 0
+storedWords n (Write i size) = n
+storedWords n (Discard i) = 0
 
-unfoldable pub rule3 : ℕ → (ℕ → Bool) → Request → List Step → Bool
-rule3 p free r xs = onceEach (storedWords p r) (words xs) && mapsFit (planMap xs) free (wordFor xs) xs
+unfoldable pub rule3 : Shape → (ℕ → Bool) → Request → List Step → Bool
+rule3 g free r xs = onceEach (storedWords (mapWords g) r) (words xs) && mapsFit (planMap xs) free (wordFor g (sizeOf r) xs) xs
 
 -- ---- rule 4: "Write: one LINK, this chunk, that map. Discard of a mapped chunk: one LINK, this chunk, X. Of an unmapped one: no LINK."
 
@@ -239,7 +248,7 @@ brokenRule kn r plan =
     let xs = stepsOf plan in
     let after4 : ℕ = cond (rule5 (kn .chunkMapped) r xs) 0 5 in
     let after3 : ℕ = cond (rule4 (kn .chunkMapped) r xs) after4 4 in
-    let after2 : ℕ = cond (rule3 (mapWords (kn .shape)) (kn .mapFree) r xs) after3 3 in
+    let after2 : ℕ = cond (rule3 (kn .shape) (kn .mapFree) r xs) after3 3 in
     let after1 : ℕ = cond (rule2 (kn .unitFree) r xs) after2 2 in
     cond (rule1 (kn .shape) plan) after1 1
 
@@ -250,7 +259,7 @@ abbrev pub goodChunk : Shape → Request → Bool
 goodChunk g r = ltb (chunkOf r) (g .c)
 
 abbrev pub goodSize : Shape → Request → Bool
-goodSize g (Write i size) = leb 1 size && leb size (g .p * unitBytes)
+goodSize g (Write i size) = isSize g size
 goodSize g (Discard i) = true
 
 -- 11 BAD PLAN, "a plan rule broken", with the "lowest rule broken"

@@ -24,7 +24,7 @@ pub struct Order {
 // The most steps that a plan may have.
 pub const MAX_STEPS: usize = 64;
 
-// The words of the sets of the pieces and of the words of a map that are left to come, a bit for each of at most 16.
+// The words of the bit sets of expected pieces and of expected map words: at most MAX_MAP_WORDS bits each.
 pub const SLOT_WORDS: usize = 1;
 
 pub mod bools;

@@ -7,17 +7,20 @@ use borrow.Author.Needs.{needs}
 use Rattle.bitset.specs.Bits.{inSet}
 use Rattle.steps.specs.Steps.{stepsOf, wholeSteps}
 use Rattle.rules.specs.Passes.{fold, expecting, storing, store, unitAt}
+use Rattle.layout.specs.Layout.{afterHead}
 use Rattle.steps.proofs.Rest.{rest}
 use Rattle.rules.proofs.Folding.{fold-start, fold-turn, fold-done}
 use Rattle.rule3.proofs.store_all.Statement.{statement}
 use Rattle.rule3.proofs.store_all.Tie as tie
 
 abbrev Inv-loop : tie.InvT-loop
-Inv-loop plan n words₀ a free held t₀ count at₀ words t at = (at ≤ wholeSteps plan) × (length words ≡ length words₀)
-    × (fold (store a (inSet free) (unitAt held)) (storing (expecting n) words₀) (stepsOf plan) ≡ fold (store a (inSet free) (unitAt held)) (storing t words) (rest plan at))
+Inv-loop plan n words₀ a free heads size held t₀ count at₀ words t at =
+    (at ≤ wholeSteps plan) × (length words ≡ length words₀)
+    × (fold (store a (inSet free) (afterHead heads size (unitAt held))) (storing (expecting n) words₀) (stepsOf plan)
+    ≡ fold (store a (inSet free) (afterHead heads size (unitAt held))) (storing t words) (rest plan at))
 
 abbrev μ-loop : tie.MeasureT-loop
-μ-loop plan n words₀ a free held t₀ count at₀ words t at = wholeSteps plan - at
+μ-loop plan n words₀ a free heads size held t₀ count at₀ words t at = wholeSteps plan - at
 
 loop-holds : tie.Need-loop-holds Inv-loop μ-loop
 loop-holds c = (search needs, refl, fold-start (store _ _ _) (storing (expecting _) _) _)

@@ -1,5 +1,4 @@
 -- `checker::broken::broken_rule` meets its contract: each test that fails gives its rule, those before it having passed.
-use native.Mathlib.Omega.{arith}
 use borrow.Author.Tests.{not-false}
 use Rattle.rules.proofs.Deciding.{broke, kept, broken-1, broken-2, broken-3, broken-4, broken-5, broken-none}
 use borrow.Author.Needs.{needs}
@@ -34,7 +33,10 @@ slice-aggregate-keeps-rule3-2 : tie.Need-slice-aggregate-keeps-rule3-2
 slice-aggregate-keeps-rule3-2 c = search needs
 
 keeps-rule3-requires : tie.Need-keeps-rule3-requires
-keeps-rule3-requires c κs = (omega arith, c .before .before .first-map .ensures, c .before .before .before .before .before .before .keeps-rule2 .ensures .holds (not-false (c .before .before .before .before .before .before .keeps-rule2 .result) (c .before .before .before .if2 .left)))
+keeps-rule3-requires c κs =
+    let judged = c .before .before .before .before .before .before in
+    let held = judged .keeps-rule2 .ensures .holds (not-false (judged .keeps-rule2 .result) (c .before .before .before .if2 .left)) in
+    (judged .before .before .before .before .before .before .pre .0, (c .before .before .first-map .ensures, held))
 
 returns-3 : tie.Need-returns-3
 returns-3 c = broken-3 _ _ _ (kept (c .before .before .before .before .before .before .before .before .before .before .before .before .keeps-rule1 .ensures) (c .before .before .before .before .before .before .before .before .before .before .before .if1 .left)) (kept (c .before .before .before .before .before .before .before .before .keeps-rule2 .ensures .decides) (c .before .before .before .before .before .if2 .left)) (broke (c .before .keeps-rule3 .ensures) (c .if3 .taken))

@@ -45,7 +45,7 @@ broken-rule-requires : tie.Need-broken-rule-requires
 broken-rule-requires c κs =
     let a = c .before .before .before .before .before .before .before .before in
     let z : goodSize (a .args .g) (a .args .request) ≡ true = sym (c .before .before .good-size .ensures) ∙ not-false (c .before .before .good-size .result) (c .before .if2 .left) in
-    (a .pre .0 .limits .p-high, size-low (a .args .g) (a .args .request) (a .pre .0 .limits .p-high) z)
+    (a .pre .0 .limits, size-low (a .args .g) (a .args .request) (a .pre .0 .limits .p-high) z)
 
 returns-3 : tie.Need-returns-3
 returns-3 c =
