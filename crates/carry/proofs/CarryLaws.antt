@@ -13,10 +13,10 @@ use Rattle.words.specs.Words.{digits}
 use Rattle.words.proofs.Laws.{length-digits}
 use Rattle.words.proofs.Store.{getD-sets-outside}
 use Rattle.layout.specs.declared.Shape.{Shape}
-use Rattle.layout.specs.Layout.{X, mapWords, wordAt, putWord, mapWordPlace, trailerStart}
+use Rattle.layout.specs.Layout.{X, maxChunkBytes, mapWords, wordAt, putWord, mapWordPlace, trailerStart}
 use Rattle.layout.specs.Shaped.{Limits, On, wordCount}
 use Rattle.layout.proofs.Place.{wordAt-same, wordAt-other, on-put, place-in, put-trailer, on-limits}
-use Rattle.layout.proofs.Limits.{units-high, on-shaped}
+use Rattle.layout.proofs.Limits.{on-shaped}
 use Rattle.steps.specs.declared.Value.{Value}
 use Rattle.steps.specs.declared.Value.the-variants.{Number, Absent}
 use Rattle.steps.specs.declared.Step.{Step}
@@ -24,7 +24,8 @@ use Rattle.steps.specs.declared.Step.the-variants.{Data, Map, Link, Fence}
 use Rattle.steps.specs.declared.Decoded.{Decoded}
 use Rattle.steps.specs.declared.Decoded.the-variants.{Whole, Malformed}
 use Rattle.steps.specs.Steps.{wordOf}
-use Rattle.rules.specs.Rules.{valueBelow, inRange, wholeInRange}
+use Rattle.rules.specs.Rules.{valueBelow, wordInRange, inRange, wholeInRange}
+use Rattle.rules.proofs.StepLaws.{word-small}
 use Rattle.carry.specs.Carry.{carry, Misses}
 use Rattle.carry.specs.Carrying.{carryDecoded}
 
@@ -41,7 +42,7 @@ module _ (g : Shape) where
 
   module _ (k j : ℕ) (v : Value) (h : inRange g (Map k j v) ≡ true) where
     both : (ltb k (g .m) && ltb j (mapWords g)) ≡ true
-    both = and-left (ltb k (g .m) && ltb j (mapWords g)) (valueBelow (g .n) v) h
+    both = and-left (ltb k (g .m) && ltb j (mapWords g)) (wordInRange g j v) h
 
     pub map-below : k < g .m
     map-below = ltb-true k (g .m) (and-left (ltb k (g .m)) (ltb j (mapWords g)) both)
@@ -50,7 +51,7 @@ module _ (g : Shape) where
     word-below = ltb-true j (mapWords g) (and-right (ltb k (g .m)) (ltb j (mapWords g)) both)
 
     unit-fits : Limits g → wordOf v ≤ X
-    unit-fits l = value-fits (g .n) v (omega (arith, units-high g l)) (and-right (ltb k (g .m) && ltb j (mapWords g)) (valueBelow (g .n) v) h)
+    unit-fits l = value-fits (maxChunkBytes + 1) v (omega arith) (word-small g j v l (and-right (ltb k (g .m) && ltb j (mapWords g)) (wordInRange g j v) h))
 
     -- its word is one of the image's
     map-in : mapWordPlace g k j < wordCount g
@@ -70,8 +71,8 @@ module _ (g : Shape) where
     -- ---- the bytes that a step in range stores are the image's
 
     module _ (x : Step) (h : inRange g x ≡ true) where
-      pub map-bytes : (k j : ℕ) (v : Value) → x ≡ Map k j v → 8 * mapWordPlace g k j + 8 ≤ length s
-      map-bytes k j v e = let z = on-shaped g s o .size in omega (arith, map-in k j v (rw e at h))
+      pub map-place : (k j : ℕ) (v : Value) → x ≡ Map k j v → (k < g .m) × (j < mapWords g)
+      map-place k j v e = (map-below k j v (rw e at h), word-below k j v (rw e at h))
 
       pub link-bytes : (i : ℕ) (v : Value) → x ≡ Link i v → 8 * i + 8 ≤ length s
       link-bytes i v e = let z = on-shaped g s o .size in omega (arith, link-in i v (rw e at h))

@@ -6,9 +6,9 @@ use mathlib.Core.List.{List, [], _∷_}
 use lib.ListN.{length, getD, take, drop}
 use Rattle.layout.specs.declared.Shape.{Shape}
 use Rattle.layout.specs.declared.Refusal.{Refusal}
-use Rattle.layout.specs.Layout.{shapeOf, trailerStart, trailerAt}
+use Rattle.layout.specs.Layout.{shapeOf, editionOf, trailerStart, trailerAt}
 use Rattle.layout.specs.Shaped.{On}
-use Rattle.layout.proofs.Limits.{on-shaped}
+use Rattle.layout.proofs.Limits.{on-shaped, shape-edition}
 use Rattle.image.proofs.Order.{orderly}
 use Rattle.steps.specs.declared.Step.{Step}
 use Rattle.steps.specs.declared.Request.{Request}
@@ -85,12 +85,12 @@ module _ (s : List ℕ) (r : Request) (plan : List ℕ) (n : ℕ) where
       either-way (λ t. getD t b 0 ≡ getD s b 0) refl (λ e. all-byte (shapeOf s) s (take n (stepsOf plan)) (on e) (in-range e) b m)
 
   -- The trailer's bytes never change, nor does the length.
-  pub trailer-stays : drop (trailerAt s) (carryImage s r plan n) ≡ drop (trailerAt s) s
+  pub trailer-stays : drop (trailerAt (editionOf s) s) (carryImage s r plan n) ≡ drop (trailerAt (editionOf s) s) s
   unfolding carried
   trailer-stays =
-      either-way (λ t. drop (trailerAt s) t ≡ drop (trailerAt s) s) refl (λ e.
+      either-way (λ t. drop (trailerAt (editionOf s) s) t ≡ drop (trailerAt (editionOf s) s) s) refl (λ e.
       let z = on-shaped (shapeOf s) s (on e) .size in
-      let at : trailerAt s ≡ trailerStart (shapeOf s) = omega arith in
+      let at : trailerAt (editionOf s) s ≡ trailerStart (shapeOf s) = omega (arith, shape-edition s) in
       rw at (all-trailer (shapeOf s) s (take n (stepsOf plan)) (on e) (in-range e)))
 
   pub length-stays : length (carryImage s r plan n) ≡ length s

@@ -1,9 +1,12 @@
 // Carrying a plan out on the image.
 use checker::check::judge;
+use image::MAP_SET_WORDS;
+use image::UNIT_SET_WORDS;
 use image::Verdict;
 use image::load::load;
 use layout::Refusal;
 use layout::Shape;
+use layout::geometry::map_word_place;
 use rules::Checked;
 use steps::Decoded;
 use steps::Request;
@@ -19,6 +22,7 @@ ghost use lib.ListN.{length};
 ghost use Rattle.bitset.specs.Bits.{bitSet};
 ghost use Rattle.layout.specs.Shaped.{On};
 ghost use Rattle.layout.specs.Layout.{putWord};
+ghost use Rattle.image.specs.Loading.{unitSetWords, mapSetWords};
 ghost use Rattle.image.specs.Free.{freeUnit, freeMap};
 ghost use Rattle.image.specs.Claims.{Tested};
 ghost use Rattle.steps.specs.Steps.{wordOf, wholeSteps};
@@ -48,9 +52,7 @@ fn carry_step(image: &mut [u8], g: Shape, step: Step)
             write: _,
         } => {}
         Step::Map { map, word, value } => {
-            let c = g.c as usize;
-            let p = g.p as usize;
-            store(image, c + map as usize * p + word as usize, value);
+            store(image, map_word_place(g, map as usize, word as usize), value);
         }
         Step::Link { chunk, value } => store(image, chunk as usize, value),
         Step::Fence => {}
@@ -87,15 +89,15 @@ fn carry_steps(image: &mut [u8], g: Shape, plan: &[u8], n: usize)
 fn carry_in(
     image: &mut [u8],
     g: Shape,
-    units: [u64; 72],
-    maps: [u64; 5],
+    units: [u64; UNIT_SET_WORDS],
+    maps: [u64; MAP_SET_WORDS],
     request: Request,
     plan: &[u8],
     n: u64,
 ) -> Checked
     requires { ⌜ On g (now image) ⌝ }
     requires { ⌜ Tested (now image) ⌝ }
-    requires { ⌜ (units ≡ bitSet (freeUnit (now image)) 72) × (maps ≡ bitSet (freeMap (now image)) 5) ⌝ }
+    requires { ⌜ (units ≡ bitSet (freeUnit (now image)) unitSetWords) × (maps ≡ bitSet (freeMap (now image)) mapSetWords) ⌝ }
     ensures { λ r. ⌜ r ≡ carryIn (now (image .entry)) request (now (plan .entry)) n ⌝ }
     ensures { λ r. ⌜
         now (image .exit) ≡ leftBy (carryIn (now (image .entry)) request (now (plan .entry)) n) (now (image .entry)) (now (plan .entry)) n

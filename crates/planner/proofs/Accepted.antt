@@ -1,7 +1,7 @@
 -- The planner's own plans keep every rule of the checker.
-use Prim.Native.Nat.{ℕ, _*_, _%_, _≤_, _<_}
+use Prim.Native.Nat.{ℕ, _+_, _-_, _*_, _%_, _≤_, _<_}
 use native.Mathlib.Omega.{arith}
-use mathlib.Core.Path.{_≡_, refl, ap, sym, _∙_}
+use mathlib.Core.Path.{_≡_, refl, ap, sym, _∙_, fun-ext}
 use mathlib.Core.Logic.{⊎-elim}
 use mathlib.Core.Bool.{Bool, true, false, _&&_}
 use mathlib.Core.List.{List, [], _∷_, _++_, map, map-id, append-assoc, append-nil}
@@ -10,16 +10,17 @@ use lib.Seq.{length-take-le}
 use lib.Dec.{eqb, ltb, leb}
 use borrow.Author.Tests.{lt-ltb, ltb-true, ltb-false, le-leb, leb-true, eq-eqb, eqb-true}
 use Rattle.search.specs.Search.{below, all, distinct, firstOr}
-use Rattle.search.proofs.Bools.{either, and-left, and-right, and-intro}
+use Rattle.search.proofs.Bools.{either, and-left, and-right, and-intro, cond-true, cond-false}
 use Rattle.search.proofs.Members.{all-at, all-take, all-first, member-getD}
 use Rattle.search.proofs.Kept.{all-kept}
 use Rattle.search.proofs.Distinct.{distinct-from, distinct-take}
 use Rattle.search.proofs.Ranges.{all-below-intro, length-from}
 use Rattle.search.proofs.Mapping.{map-below-ext, map-places, first-constant}
 use Rattle.layout.specs.declared.Shape.{Shape}
-use Rattle.layout.specs.Layout.{X, mapWords, unitBytes, shapeOf}
+use Rattle.layout.specs.Layout.{isSize, maxChunkBytes, X, unitBytes, unitsFor, head, mapWords, afterHead, shapeOf}
+use Rattle.layout.proofs.Heads.{in-head, past-head, after-ap}
 use Rattle.layout.specs.Shaped.{Limits}
-use Rattle.layout.proofs.Limits.{fitting-limits, units-high}
+use Rattle.layout.proofs.Limits.{fitting-limits, units-high, words-high, map-words}
 use Rattle.image.specs.Soundness.{mapped}
 use Rattle.image.specs.Claims.{Tested}
 use Rattle.image.specs.Free.{freeUnit, freeMap, freeUnits, freeMaps}
@@ -32,13 +33,14 @@ use Rattle.steps.specs.declared.Decoded.{Decoded}
 use Rattle.steps.specs.declared.Decoded.the-variants.{Whole}
 use Rattle.steps.specs.declared.Request.{Request}
 use Rattle.steps.specs.declared.Request.the-variants.{Write, Discard}
-use Rattle.steps.specs.Steps.{stepBytes, unitsFor, needOf, wordOf, decodeAt, stepsOf, encodeAll}
+use Rattle.steps.specs.Steps.{stepBytes, needOf, wordOf, decodeAt, stepsOf, encodeAll}
 use Rattle.steps.specs.Encodable.{Each, ValueFits, Fits}
 use Rattle.steps.proofs.Codec.{each-map, decoded, whole-encoded, steps-encoded, length-encoded}
 use Rattle.rules.specs.declared.Checked.the-variants.{Accepted as Accept}
-use Rattle.rules.specs.Rules.{maxSteps, collect, every, pieceIn, unitIn, mapIn, wordIn, linkIn, linkedIn, unitOf, mapFits, planMap, endsIn, beforeLink, afterLink, onceEach, linksAre, valueBelow, inRange, wholeInRange, rule1, rule2, rule3, rule4, rule5, goodChunk, goodSize, checked, pieces, units, maps, words, links, linked}
+use Rattle.rules.specs.Rules.{maxSteps, collect, every, pieceIn, unitIn, mapIn, wordIn, linkIn, linkedIn, unitOf, wordFor, mapFits, planMap, endsIn, beforeLink, afterLink, onceEach, linksAre, sizeValue, valueBelow, wordInRange, inRange, wholeInRange, rule1, rule2, rule3, rule4, rule5, goodChunk, goodSize, checked, pieces, units, maps, words, links, linked}
+use Rattle.rules.proofs.StepLaws.{word-small}
 use Rattle.checker.proofs.Accepting.{Unbroken, accepted}
-use Rattle.planner.specs.Planner.{dataStep, dataSteps, valueFor, mapStep, mapSteps, linkSteps, writeSteps, planOf}
+use Rattle.planner.specs.Planner.{dataStep, dataSteps, unitValue, valueFor, mapStep, mapSteps, linkSteps, writeSteps, planOf}
 use Rattle.planner.proofs.Storing.{length-writeSteps}
 use Rattle.planner.proofs.StepLists.{passed-over, drawn, every-of, before-link, each-from, unit-here, unit-past, ends-in-fence}
 
@@ -61,12 +63,12 @@ module _ (g : Shape) (l : Limits g) where
       let z = eqb-true w 0 (and-right (ltb u (g .n) && ltb j (g .p)) (eqb w 0) e) in
       (omega (arith, units-high g l), omega (arith, l .p-high), omega arith)
   small (Map k j v) e =
-      let both = and-left (ltb k (g .m) && ltb j (mapWords g)) (valueBelow (g .n) v) e in
+      let both = and-left (ltb k (g .m) && ltb j (mapWords g)) (wordInRange g j v) e in
       let a = ltb-true k (g .m) (and-left (ltb k (g .m)) (ltb j (mapWords g)) both) in
       let b = ltb-true j (mapWords g) (and-right (ltb k (g .m)) (ltb j (mapWords g)) both) in (
         omega (arith, l .m-high, l .c-high),
-        omega (arith, l .p-high),
-        value-small (g .n) v (omega (arith, units-high g l)) (and-right (ltb k (g .m) && ltb j (mapWords g)) (valueBelow (g .n) v) e),
+        omega (arith, words-high g l),
+        value-small (maxChunkBytes + 1) v (omega arith) (word-small g j v l (and-right (ltb k (g .m) && ltb j (mapWords g)) (wordInRange g j v) e)),
       )
   small (Link i v) e =
       let a = ltb-true i (g .c) (and-left (ltb i (g .c)) (valueBelow (g .m) v) e) in
@@ -107,7 +109,7 @@ once-each n = rw (length-from 0 n, eq-eqb n n refl, distinct-from 0 n, all-below
 
 module _ (s : List ℕ) (i size : ℕ) (us : List ℕ) (m : ℕ) (l : Limits (shapeOf s)) (chunk : i < shapeOf s .c)
     (need : length us ≡ unitsFor size) (few : unitsFor size ≤ shapeOf s .p) (free : all (freeUnit s) us ≡ true) (differ : distinct us ≡ true)
-    (mfree : freeMap s m ≡ true) where
+    (mfree : freeMap s m ≡ true) (sized : isSize (shapeOf s) size ≡ true) where
   abbrev g : Shape
   g = shapeOf s
 
@@ -118,11 +120,11 @@ module _ (s : List ℕ) (i size : ℕ) (us : List ℕ) (m : ℕ) (l : Limits (sh
   p = mapWords (shapeOf s)
 
   abbrev xs : List Step
-  xs = writeSteps us m p i
+  xs = writeSteps (head g) size us m p i
 
   -- the steps after the DATA steps
   abbrev later : List Step
-  later = map (mapStep m us) (below p) ++ linkSteps i m
+  later = map (mapStep (head g) size m us) (below p) ++ linkSteps i m
 
   flat : xs ≡ map (dataStep us) (below k) ++ later
   unfolding writeSteps dataSteps mapSteps
@@ -131,18 +133,35 @@ module _ (s : List ℕ) (i size : ℕ) (us : List ℕ) (m : ℕ) (l : Limits (sh
   unit-below : (j : ℕ) → j < k → getD us j 0 < g .n
   unit-below j h = freeUnit-below s (getD us j 0) (all-at (freeUnit s) us free (getD us j 0) (member-getD us j h))
 
-  -- word j of the map as it is stored
-  word-unit : (j : ℕ) → j < k → wordOf (valueFor us j) ≡ getD us j 0
-  unfolding valueFor
+  -- unit word j of the map as it is stored
+  word-unit : (j : ℕ) → j < k → wordOf (unitValue us j) ≡ getD us j 0
+  unfolding unitValue
   word-unit j h = rw (lt-ltb j k h)
 
-  word-past : (j : ℕ) → ltb j k ≡ false → wordOf (valueFor us j) ≡ X
-  unfolding valueFor
+  word-past : (j : ℕ) → ltb j k ≡ false → wordOf (unitValue us j) ≡ X
+  unfolding unitValue
   word-past j h = rw h
 
-  value-in : (j : ℕ) → valueBelow (g .n) (valueFor us j) ≡ true
-  unfolding valueFor
-  value-in j = ⊎-elim (λ e. rw e (lt-ltb (getD us j 0) (g .n) (unit-below j (ltb-true j k e)))) (λ e. rw e) (either (ltb j k))
+  unit-in : (j : ℕ) → valueBelow (g .n) (unitValue us j) ≡ true
+  unfolding unitValue
+  unit-in j = ⊎-elim (λ e. rw e (lt-ltb (getD us j 0) (g .n) (unit-below j (ltb-true j k e)))) (λ e. rw e) (either (ltb j k))
+
+  size-word : (j : ℕ) (v : Value) → ltb j (head g) ≡ true → wordInRange g j v ≡ sizeValue g v
+  unfolding wordInRange
+  size-word j v e = cond-true (ltb j (head g)) (sizeValue g v) (valueBelow (g .n) v) e
+
+  unit-word : (j : ℕ) (v : Value) → ltb j (head g) ≡ false → wordInRange g j v ≡ valueBelow (g .n) v
+  unfolding wordInRange
+  unit-word j v e = cond-false (ltb j (head g)) (sizeValue g v) (valueBelow (g .n) v) e
+
+  value-in : (j : ℕ) → wordInRange g j (valueFor (head g) size us j) ≡ true
+  value-in j =
+      ⊎-elim
+      (λ e. ap (wordInRange g j) (in-head (head g) (Number size) (unitValue us) j (ltb-true j (head g) e)) ∙ size-word j (Number size) e ∙ sized)
+      (λ e. ap (wordInRange g j) (past-head (head g) (Number size) (unitValue us) j (ltb-false j (head g) e))
+      ∙ unit-word j (unitValue us (j - head g)) e
+      ∙ unit-in (j - head g))
+      (either (ltb j (head g)))
 
   in-range : Each (InRange g) xs
   in-range =
@@ -150,60 +169,60 @@ module _ (s : List ℕ) (i size : ℕ) (us : List ℕ) (m : ℕ) (l : Limits (sh
       rw flat
       (each-from (dataStep us) later (InRange g) 0 k
       (λ j a b. rw (lt-ltb (getD us j 0) (g .n) (unit-below j (omega arith)), lt-ltb j (g .p) (omega arith)))
-      (each-from (mapStep m us) (linkSteps i m) (InRange g) 0 p
+      (each-from (mapStep (head g) size m us) (linkSteps i m) (InRange g) 0 p
       (λ j a b. rw (lt-ltb m (g .m) mb, lt-ltb j p (omega arith), value-in j))
       (refl, (rw (lt-ltb i (g .c) chunk, lt-ltb m (g .m) mb), (refl, tt)))))
 
   steps-few : length xs ≤ maxSteps
-  steps-few = omega (arith, length-writeSteps us m p i, l .p-high)
+  steps-few = omega (arith, length-writeSteps (head g) size us m p i, l .p-high, words-high g l)
 
   pieces-are : pieces xs ≡ below k
   unfolding collect pieceIn
   pieces-are =
       rw flat
       (drawn (dataStep us) later pieceIn (λ j. j) (λ j. refl) (below k)
-      ∙ rw (passed-over (mapStep m us) (linkSteps i m) (collect pieceIn) (λ j ys. refl) (below p), append-nil (map (λ (j : ℕ). j) (below k)), map-id (below k)))
+      ∙ rw (passed-over (mapStep (head g) size m us) (linkSteps i m) (collect pieceIn) (λ j ys. refl) (below p), append-nil (map (λ (j : ℕ). j) (below k)), map-id (below k)))
 
-  units-are : units (writeSteps us m (mapWords (shapeOf s)) i) ≡ us
+  units-are : units (writeSteps (head (shapeOf s)) size us m (mapWords (shapeOf s)) i) ≡ us
   unfolding collect unitIn
   units-are =
       rw flat
       (drawn (dataStep us) later unitIn (λ j. getD us j 0) (λ j. refl) (below k)
-      ∙ rw (passed-over (mapStep m us) (linkSteps i m) (collect unitIn) (λ j ys. refl) (below p), append-nil (map (λ (j : ℕ). getD us j 0) (below k)), map-places))
+      ∙ rw (passed-over (mapStep (head g) size m us) (linkSteps i m) (collect unitIn) (λ j ys. refl) (below p), append-nil (map (λ (j : ℕ). getD us j 0) (below k)), map-places))
 
   words-are : words xs ≡ below p
   unfolding collect wordIn
   words-are =
       rw flat
       (passed-over (dataStep us) later (collect wordIn) (λ j ys. refl) (below k)
-      ∙ drawn (mapStep m us) (linkSteps i m) wordIn (λ j. j) (λ j. refl) (below p)
+      ∙ drawn (mapStep (head g) size m us) (linkSteps i m) wordIn (λ j. j) (λ j. refl) (below p)
       ∙ append-nil (map (λ (j : ℕ). j) (below p))
       ∙ map-id (below p))
 
-  map-is : planMap (writeSteps us m (mapWords (shapeOf s)) i) ≡ m
+  map-is : planMap (writeSteps (head (shapeOf s)) size us m (mapWords (shapeOf s)) i) ≡ m
   unfolding planMap collect mapIn
   map-is =
       ap (firstOr X)
       (ap maps flat ∙ passed-over (dataStep us) later (collect mapIn) (λ j ys. refl) (below k)
-      ∙ drawn (mapStep m us) (linkSteps i m) mapIn (λ j. m) (λ j. refl) (below p)
+      ∙ drawn (mapStep (head g) size m us) (linkSteps i m) mapIn (λ j. m) (λ j. refl) (below p)
       ∙ append-nil (map (λ (j : ℕ). m) (below p)))
-      ∙ first-constant m X 0 p (omega (arith, l .p-low))
+      ∙ first-constant m X 0 p (omega (arith, l .p-low, map-words g))
 
   links-are : links xs ≡ i ∷ []
   unfolding collect linkIn
   links-are =
       rw flat
       (passed-over (dataStep us) later (collect linkIn) (λ j ys. refl) (below k)
-      ∙ passed-over (mapStep m us) (linkSteps i m) (collect linkIn) (λ j ys. refl) (below p))
+      ∙ passed-over (mapStep (head g) size m us) (linkSteps i m) (collect linkIn) (λ j ys. refl) (below p))
 
   linked-are : linked xs ≡ m ∷ []
   unfolding collect linkedIn
   linked-are =
       rw flat
       (passed-over (dataStep us) later (collect linkedIn) (λ j ys. refl) (below k)
-      ∙ passed-over (mapStep m us) (linkSteps i m) (collect linkedIn) (λ j ys. refl) (below p))
+      ∙ passed-over (mapStep (head g) size m us) (linkSteps i m) (collect linkedIn) (λ j ys. refl) (below p))
 
-  unit-of : (j : ℕ) → unitOf j xs ≡ wordOf (valueFor us j)
+  unit-of : (j : ℕ) → unitOf j xs ≡ wordOf (unitValue us j)
   unfolding unitOf
   unit-of j =
       ap (unitOf j) flat
@@ -211,43 +230,49 @@ module _ (s : List ℕ) (i size : ℕ) (us : List ℕ) (m : ℕ) (l : Limits (sh
       (λ e. let h = ltb-true j k e in unit-here (λ a. getD us a 0) later j 0 k (omega arith) (omega arith) ∙ sym (word-unit j h))
       (λ e.
       let h = ltb-false j k e in
-      unit-past (λ a. getD us a 0) later j 0 k (omega arith) ∙ passed-over (mapStep m us) (linkSteps i m) (unitOf j) (λ a ys. refl) (below p)
+      unit-past (λ a. getD us a 0) later j 0 k (omega arith) ∙ passed-over (mapStep (head g) size m us) (linkSteps i m) (unitOf j) (λ a ys. refl) (below p)
       ∙ sym (word-past j e))
       (either (ltb j k))
 
   -- the units of the pieces, in their order
-  pieces-on : map (λ j. unitOf j (writeSteps us m (mapWords (shapeOf s)) i)) (below (length us)) ≡ us
+  pieces-on : map (λ j. unitOf j (writeSteps (head (shapeOf s)) size us m (mapWords (shapeOf s)) i)) (below (length us)) ≡ us
   pieces-on = map-below-ext (λ j. unitOf j xs) (λ j. getD us j 0) k (λ j h. unit-of j ∙ word-unit j h) ∙ map-places us
 
-  stores : every (mapFits m (freeMap s) (λ j. unitOf j xs)) xs ≡ true
+  -- word j of the map as it is stored
+  word-of : (j : ℕ) → wordOf (valueFor (head g) size us j) ≡ wordFor g size xs j
+  word-of j =
+      after-ap wordOf (head g) (Number size) (unitValue us) j
+      ∙ ap (λ (f : ℕ → ℕ). afterHead (head g) size f j) (fun-ext (λ a. sym (unit-of a)))
+
+  stores : every (mapFits m (freeMap s) (wordFor g size xs)) xs ≡ true
   unfolding every mapFits
   stores =
-      let test = mapFits m (freeMap s) (λ j. unitOf j xs) in
+      let test = mapFits m (freeMap s) (wordFor g size xs) in
       ap (every test) flat
       ∙ every-of (dataStep us) later test (λ j. refl) (below k)
-      ∙ every-of (mapStep m us) (linkSteps i m) test
-      (λ j. rw (eq-eqb m m refl, mfree, eq-eqb (wordOf (valueFor us j)) (unitOf j xs) (sym (unit-of j)))) (below p)
+      ∙ every-of (mapStep (head g) size m us) (linkSteps i m) test
+      (λ j. rw (eq-eqb m m refl, mfree, eq-eqb (wordOf (valueFor (head g) size us j)) (wordFor g size xs j) (word-of j))) (below p)
 
-  before : beforeLink xs ≡ (map (dataStep us) (below k) ++ map (mapStep m us) (below p)) ++ (Fence ∷ [])
+  before : beforeLink xs ≡ (map (dataStep us) (below k) ++ map (mapStep (head g) size m us) (below p)) ++ (Fence ∷ [])
   unfolding beforeLink
   before =
       ap beforeLink flat
       ∙ before-link (dataStep us) later (λ j ys. refl) (below k)
-      ∙ ap (λ (ys : List Step). map (dataStep us) (below k) ++ ys) (before-link (mapStep m us) (linkSteps i m) (λ j ys. refl) (below p))
-      ∙ sym (append-assoc (map (dataStep us) (below k)) (map (mapStep m us) (below p)) (Fence ∷ []))
+      ∙ ap (λ (ys : List Step). map (dataStep us) (below k) ++ ys) (before-link (mapStep (head g) size m us) (linkSteps i m) (λ j ys. refl) (below p))
+      ∙ sym (append-assoc (map (dataStep us) (below k)) (map (mapStep (head g) size m us) (below p)) (Fence ∷ []))
 
   after : afterLink xs ≡ Fence ∷ []
   unfolding afterLink
   after =
       ap afterLink flat
       ∙ passed-over (dataStep us) later afterLink (λ j ys. refl) (below k)
-      ∙ passed-over (mapStep m us) (linkSteps i m) afterLink (λ j ys. refl) (below p)
+      ∙ passed-over (mapStep (head g) size m us) (linkSteps i m) afterLink (λ j ys. refl) (below p)
 
   two : rule2 (freeUnit s) (Write i size) xs ≡ true
   unfolding rule2
   two = rw (pieces-are, units-are, ← need, once-each k, differ, free)
 
-  three : rule3 p (freeMap s) (Write i size) xs ≡ true
+  three : rule3 g (freeMap s) (Write i size) xs ≡ true
   unfolding rule3
   three = rw (words-are, once-each p, map-is, stores)
 
@@ -257,12 +282,12 @@ module _ (s : List ℕ) (i size : ℕ) (us : List ℕ) (m : ℕ) (l : Limits (sh
 
   five : rule5 (mapped s i) (Write i size) xs ≡ true
   unfolding rule5 endsIn collect unitIn mapIn
-  five = rw (before, after, ends-in-fence false (map (dataStep us) (below k) ++ map (mapStep m us) (below p)))
+  five = rw (before, after, ends-in-fence false (map (dataStep us) (below k) ++ map (mapStep (head g) size m us) (below p)))
 
-  back : stepsOf (encodeAll (writeSteps us m (mapWords (shapeOf s)) i)) ≡ writeSteps us m (mapWords (shapeOf s)) i
+  back : stepsOf (encodeAll (writeSteps (head (shapeOf s)) size us m (mapWords (shapeOf s)) i)) ≡ writeSteps (head (shapeOf s)) size us m (mapWords (shapeOf s)) i
   back = read-back g l xs in-range
 
-  write-unbroken : Unbroken s (Write i size) (encodeAll (writeSteps us m (mapWords (shapeOf s)) i))
+  write-unbroken : Unbroken s (Write i size) (encodeAll (writeSteps (head (shapeOf s)) size us m (mapWords (shapeOf s)) i))
   write-unbroken = record {
     one = rule1-kept g l xs in-range steps-few;
     two = rw back two;
@@ -338,28 +363,28 @@ module _ (s : List ℕ) (i size : ℕ) (z : Tested s) (gc : goodChunk (shapeOf s
 
   plan-unbroken : Unbroken s (Write i size) (encodeAll (planOf s (Write i size)))
   unfolding planOf
-  plan-unbroken = write-unbroken s i size us m l low taken few units-free units-differ map-free
+  plan-unbroken = write-unbroken s i size us m l low taken few units-free units-differ map-free gs
 
   -- the units and the map that the plan takes
   pub plan-units : units (planOf s (Write i size)) ≡ take (unitsFor size) (freeUnits s)
   unfolding planOf
-  plan-units = units-are s i size us m l low taken few units-free units-differ map-free
+  plan-units = units-are s i size us m l low taken few units-free units-differ map-free gs
 
   pub plan-map : planMap (planOf s (Write i size)) ≡ firstOr X (freeMaps s)
   unfolding planOf
-  plan-map = map-is s i size us m l low taken few units-free units-differ map-free
+  plan-map = map-is s i size us m l low taken few units-free units-differ map-free gs
 
   -- piece by piece
   pub plan-pieces : map (λ j. unitOf j (planOf s (Write i size))) (below (unitsFor size)) ≡ take (unitsFor size) (freeUnits s)
   unfolding planOf
   plan-pieces =
       ap (λ (n : ℕ). map (λ j. unitOf j (planOf s (Write i size))) (below n)) (sym taken)
-      ∙ pieces-on s i size us m l low taken few units-free units-differ map-free
+      ∙ pieces-on s i size us m l low taken few units-free units-differ map-free gs
 
   -- its bytes are read back as its steps
   pub plan-read : stepsOf (encodeAll (planOf s (Write i size))) ≡ planOf s (Write i size)
   unfolding planOf
-  plan-read = back s i size us m l low taken few units-free units-differ map-free
+  plan-read = back s i size us m l low taken few units-free units-differ map-free gs
 
 pub planned-accepted :
     (s : List ℕ) (r : Request) → Tested s → goodChunk (shapeOf s) r ≡ true → goodSize (shapeOf s) r ≡ true → needOf r ≤ length (freeUnits s)

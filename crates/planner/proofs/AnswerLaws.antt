@@ -15,7 +15,7 @@ use Rattle.bitset.specs.Bits.{limit, members, bitSet}
 use Rattle.layout.specs.declared.Shape.{Shape}
 use Rattle.layout.specs.declared.Refusal.{Refusal}
 use Rattle.layout.specs.declared.Refusal.the-variants.{Range, Size}
-use Rattle.layout.specs.Layout.{X, mapWords, shapeOf}
+use Rattle.layout.specs.Layout.{X, mapWords, shapeOf, unitsFor, head}
 use Rattle.layout.specs.Shaped.{On}
 use Rattle.image.specs.declared.Verdict.the-variants.{Passed, Refused as Unsound}
 use Rattle.image.specs.Soundness.{mapped}
@@ -29,7 +29,7 @@ use Rattle.steps.specs.declared.Step.{Step}
 use Rattle.steps.specs.declared.Step.the-variants.{Link, Fence}
 use Rattle.steps.specs.declared.Request.{Request}
 use Rattle.steps.specs.declared.Request.the-variants.{Write, Discard}
-use Rattle.steps.specs.Steps.{unitsFor, chunkOf, needOf, putSteps}
+use Rattle.steps.specs.Steps.{chunkOf, needOf, putSteps}
 use Rattle.steps.proofs.Encoding.{putSteps-cons, putSteps-front}
 use Rattle.rules.specs.Rules.{goodSize}
 use Rattle.planner.specs.declared.Planned.{Planned}
@@ -51,16 +51,16 @@ left-by a xs out answer after e h = (e, h ∙ ap (λ (b : Planned). written b xs
 
 -- the bytes of its plan: k units were taken, and the first free map
 pub write-bytes :
-    (units maps taken out after : List ℕ) (k m words i : ℕ) → k ≤ length (members units) → 0 < length (members maps) → 16 * (k + words + 3) ≤ length out
+    (heads size : ℕ) (units maps taken out after : List ℕ) (k m words i : ℕ) → k ≤ length (members units) → 0 < length (members maps) → 16 * (k + words + 3) ≤ length out
     → take k taken ≡ take k (members units)
     → m ≡ firstOr (limit maps) (members maps)
-    → after ≡ putSteps out 0 (writeSteps (take k taken) m words i)
-    → after ≡ written (Steps (k + words + 3)) (writeSteps (take k (members units)) (firstOr X (members maps)) words i) out
-write-bytes units maps taken out after k m words i hk hm ho et em ea =
+    → after ≡ putSteps out 0 (writeSteps heads size (take k taken) m words i)
+    → after ≡ written (Steps (k + words + 3)) (writeSteps heads size (take k (members units)) (firstOr X (members maps)) words i) out
+write-bytes heads size units maps taken out after k m words i hk hm ho et em ea =
     let us = take k (members units) in
-    let xs = writeSteps us (firstOr X (members maps)) words i in
-    let same : writeSteps (take k taken) m words i ≡ xs = rw (et, em, first-same (limit maps) X (members maps) hm) in
-    let long : length xs ≡ k + words + 3 = length-writeSteps us (firstOr X (members maps)) words i ∙ rw (length-take-le k (members units) hk) in
+    let xs = writeSteps heads size us (firstOr X (members maps)) words i in
+    let same : writeSteps heads size (take k taken) m words i ≡ xs = rw (et, em, first-same (limit maps) X (members maps) hm) in
+    let long : length xs ≡ k + words + 3 = length-writeSteps heads size us (firstOr X (members maps)) words i ∙ rw (length-take-le k (members units) hk) in
     let front = putSteps-front out xs (rw long ho) in
     ea ∙ ap (putSteps out 0) same ∙ (rw long at front)
 
@@ -106,28 +106,31 @@ write-counted s i size room = go (ltb (length (freeUnits s)) (unitsFor size)) re
     go true e = rw e
     go false e =
         let us = take (unitsFor size) (freeUnits s) in
-        let long = length-writeSteps us (firstOr X (freeMaps s)) (mapWords (shapeOf s)) i in
+        let long = length-writeSteps (head (shapeOf s)) size us (firstOr X (freeMaps s)) (mapWords (shapeOf s)) i in
         let enough = length-take-le (unitsFor size) (freeUnits s) (ltb-false _ _ e) in
         rw (long, enough)
 
 module _ (s : List ℕ) (g : Shape) (o : On g s) where
   -- what is planned on the free sets of an image is planned on the image
   pub write-planned :
-      (units maps : List ℕ) (i size : ℕ) (out : List ℕ) (answer : Planned) (after : List ℕ)
+      (heads words : ℕ) (units maps : List ℕ) (i size : ℕ) (out : List ℕ) (answer : Planned) (after : List ℕ)
+      → heads ≡ head g
+      → words ≡ mapWords g
       → units ≡ bitSet (freeUnit s) unitSetWords
       → maps ≡ bitSet (freeMap s) mapSetWords
       → i < g .c
       → goodSize g (Write i size) ≡ true
-      → Plans (writeAnswer units (g .p) size (length out)) (writeOn units maps (g .p) i size) out answer after
+      → Plans (writeAnswer units words size (length out)) (writeOn heads units maps words i size) out answer after
       → Plans (planIn s (Write i size) (length out)) (planOf s (Write i size)) out answer after
   unfolding planOf
-  write-planned units maps i size out answer after eu em low z h =
+  write-planned heads words units maps i size out answer after eh ew eu em low z h =
       let u : members units ≡ freeUnits s = ap members eu ∙ unit-members s (o .fitting) in
       let m : members maps ≡ freeMaps s = ap members em ∙ map-members s (o .fitting) in
       let good = good-request s (Write i size) out g (sym (o .shape)) low z in
       let same = write-counted s i size (length out) ∙ good in
-      let k = subst (λ (q : Shape). Plans (writeAnswer units (q .p) size (length out)) (writeOn units maps (q .p) i size) out answer after) (sym (o .shape)) h in
-      rw (← same, ← u, ← m) k
+      let hs : heads ≡ head (shapeOf s) = eh ∙ ap (λ (q : Shape). head q) (sym (o .shape)) in
+      let ws : words ≡ mapWords (shapeOf s) = ew ∙ ap mapWords (sym (o .shape)) in
+      rw (← same, ← u, ← m, ← hs, ← ws) h
 
   pub some-map : (maps : List ℕ) → maps ≡ bitSet (freeMap s) mapSetWords → 0 < length (members maps)
   some-map maps em = let m = ap (λ (l : List ℕ). length (members l)) em in let k = ap length (map-members s (o .fitting)) in omega (arith, some-map-free s (o .fitting))

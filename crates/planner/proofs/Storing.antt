@@ -16,7 +16,7 @@ use Rattle.steps.specs.declared.Step.{Step}
 use Rattle.steps.specs.declared.Step.the-variants.{Data, Link, Fence}
 use Rattle.steps.specs.Steps.{putSteps}
 use Rattle.steps.proofs.Encoding.{putSteps-none, putSteps-cons, putSteps-append}
-use Rattle.planner.specs.Planner.{dataStep, dataSteps, valueFor, mapStep, mapSteps, linkSteps, writeSteps}
+use Rattle.planner.specs.Planner.{dataStep, dataSteps, unitValue, mapStep, mapSteps, linkSteps, writeSteps}
 
 -- ---- a loop that stores step f j in turn j, from step `at` on
 
@@ -43,12 +43,12 @@ module _ (us : List ℕ) (k : ℕ) (h : k ≤ length us) (j : ℕ) where
   pub data-here : j < k → Data (getD us j 0) j 0 ≡ dataStep (take k us) j
   data-here l = rw (getD-take k us j 0 l)
 
-  pub value-unit : j < k → Number (getD us j 0) ≡ valueFor (take k us) j
-  unfolding valueFor
+  pub value-unit : j < k → Number (getD us j 0) ≡ unitValue (take k us) j
+  unfolding unitValue
   value-unit l = rw (taken, lt-ltb j k l, getD-take k us j 0 l)
 
-  pub value-past : k ≤ j → Absent ≡ valueFor (take k us) j
-  unfolding valueFor
+  pub value-past : k ≤ j → Absent ≡ unitValue (take k us) j
+  unfolding unitValue
   value-past l = rw (taken, le-ltb j k l)
 
 pub data-are : (us : List ℕ) (k : ℕ) → k ≤ length us → dataSteps (take k us) ≡ map (dataStep (take k us)) (below k)
@@ -61,17 +61,18 @@ pub length-dataSteps : (us : List ℕ) → length (dataSteps us) ≡ length us
 unfolding dataSteps
 length-dataSteps us = length-map-from (dataStep us) 0 (length us)
 
-pub length-mapSteps : (m : ℕ) (us : List ℕ) (words : ℕ) → length (mapSteps m us words) ≡ words
+pub length-mapSteps : (heads size m : ℕ) (us : List ℕ) (words : ℕ) → length (mapSteps heads size m us words) ≡ words
 unfolding mapSteps
-length-mapSteps m us words = length-map-from (mapStep m us) 0 words
+length-mapSteps heads size m us words = length-map-from (mapStep heads size m us) 0 words
 
 -- "That is k+P+3 steps"
-pub length-writeSteps : (us : List ℕ) (m words i : ℕ) → length (writeSteps us m words i) ≡ length us + words + 3
+pub length-writeSteps : (heads size : ℕ) (us : List ℕ) (m words i : ℕ) → length (writeSteps heads size us m words i) ≡ length us + words + 3
 unfolding writeSteps
-length-writeSteps us m words i =
-    let a = length-append (dataSteps us) (mapSteps m us words ++ linkSteps i m) in
-    let b = length-append (mapSteps m us words) (linkSteps i m) in
-    omega (arith, a, b, length-dataSteps us, length-mapSteps m us words)
+length-writeSteps heads size us m words i =
+    let maps = mapSteps heads size m us words in
+    let a = length-append (dataSteps us) (maps ++ linkSteps i m) in
+    let b = length-append maps (linkSteps i m) in
+    omega (arith, a, b, length-dataSteps us, length-mapSteps heads size m us words)
 
 module _ (out : List ℕ) where
   pub link-stored :
@@ -83,15 +84,17 @@ module _ (out : List ℕ) where
       ∙ putSteps-cons out at Fence (Link i (Number m) ∷ Fence ∷ [])
 
   pub write-stored :
-      (us : List ℕ) (k m words i : ℕ) → length us ≡ k
-      → putSteps (putSteps (putSteps out 0 (dataSteps us)) k (mapSteps m us words)) (k + words) (linkSteps i m) ≡ putSteps out 0 (writeSteps us m words i)
+      (heads size : ℕ) (us : List ℕ) (k m words i : ℕ) → length us ≡ k
+      → putSteps (putSteps (putSteps out 0 (dataSteps us)) k (mapSteps heads size m us words)) (k + words) (linkSteps i m)
+      ≡ putSteps out 0 (writeSteps heads size us m words i)
   unfolding writeSteps
-  write-stored us k m words i e =
-      let d = putSteps-append out 0 (dataSteps us) (mapSteps m us words ++ linkSteps i m) in
-      let q = putSteps-append (putSteps out 0 (dataSteps us)) k (mapSteps m us words) (linkSteps i m) in
+  write-stored heads size us k m words i e =
+      let maps = mapSteps heads size m us words in
+      let d = putSteps-append out 0 (dataSteps us) (maps ++ linkSteps i m) in
+      let q = putSteps-append (putSteps out 0 (dataSteps us)) k maps (linkSteps i m) in
       let at : 0 + length (dataSteps us) ≡ k = omega (arith, length-dataSteps us) in
-      sym (d ∙ ap (λ (n : ℕ). putSteps (putSteps out 0 (dataSteps us)) n (mapSteps m us words ++ linkSteps i m)) at
-      ∙ q ∙ rw (length-mapSteps m us words))
+      sym (d ∙ ap (λ (n : ℕ). putSteps (putSteps out 0 (dataSteps us)) n (maps ++ linkSteps i m)) at
+      ∙ q ∙ rw (length-mapSteps heads size m us words))
 
 -- the k units that were stored in a list of zeros
 pub stored-units : (l : List ℕ) (k : ℕ) → k ≤ 16 → k ≤ length l → take k (sets (replicate 16 0) 0 (take k l)) ≡ take k l

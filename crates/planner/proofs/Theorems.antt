@@ -14,8 +14,8 @@ use Rattle.search.proofs.Members.{first-taken}
 use Rattle.search.proofs.Rising.{taken-lowest}
 use Rattle.layout.specs.declared.Refusal.{Refusal}
 use Rattle.layout.specs.declared.Refusal.the-variants.{Range, Size, NoRoom, Small}
-use Rattle.layout.specs.Layout.{X, shapeOf}
-use Rattle.layout.proofs.Limits.{fitting-limits}
+use Rattle.layout.specs.Layout.{X, shapeOf, unitsFor, head, mapWords}
+use Rattle.layout.proofs.Limits.{fitting-limits, map-words}
 use Rattle.image.specs.declared.Verdict.{Verdict}
 use Rattle.image.specs.declared.Verdict.the-variants.{Passed, Refused as Unsound}
 use Rattle.image.specs.Claims.{Tested}
@@ -27,7 +27,7 @@ use Rattle.image.proofs.Refusing.{refused-row}
 use Rattle.image.proofs.Room.{freeUnit-below, freeMap-below, some-map-free, units-free}
 use Rattle.steps.specs.declared.Request.{Request}
 use Rattle.steps.specs.declared.Request.the-variants.{Write, Discard}
-use Rattle.steps.specs.Steps.{stepBytes, unitsFor, chunkOf, needOf, encodeAll}
+use Rattle.steps.specs.Steps.{stepBytes, chunkOf, needOf, encodeAll}
 use Rattle.steps.proofs.Codec.{length-encoded}
 use Rattle.rules.specs.declared.Checked.the-variants.{Accepted}
 use Rattle.rules.specs.Rules.{units, planMap, goodChunk, goodSize, checked}
@@ -178,14 +178,14 @@ module _ (s : List ℕ) (i size room n : ℕ) (e : planAnswer s (Write i size) r
       (first-taken X (freeMaps s) some ∙ ap (λ (m : ℕ). m ∷ []) (sym (plan-map s i size tested chunk good-size (told .free))))
       (taken-lowest (freeMap s) (shapeOf s .m) 1 (freeMap-below s) some)
 
-  -- "That is k+P+3 steps, at most 35."
-  pub steps-counted : (n ≡ unitsFor size + shapeOf s .p + 3) × (n ≤ 35)
+  -- "That is k+P+3 steps, at most 35."; in edition 2 "k+P+4 steps"
+  pub steps-counted : (n ≡ unitsFor size + mapWords (shapeOf s) + 3) × (n ≤ 35 + head (shapeOf s))
   unfolding planOf
   steps-counted =
       let k = unitsFor size in
       let c = told .steps in
-      let a = length-writeSteps (take k (freeUnits s)) (firstOr X (freeMaps s)) (shapeOf s .p) i in
+      let a = length-writeSteps (head (shapeOf s)) size (take k (freeUnits s)) (firstOr X (freeMaps s)) (mapWords (shapeOf s)) i in
       let b = length-take-le k (freeUnits s) (told .free) in
       let f = need-few s (Write i size) (told .good) in
       let l = fitting-limits s (tested .fitting) in
-      (omega arith, omega (arith, l .p-high))
+      (omega arith, omega (arith, l .p-high, map-words (shapeOf s)))

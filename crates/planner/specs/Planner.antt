@@ -7,7 +7,7 @@ use lib.Dec.{ltb}
 use Rattle.search.specs.Search.{below, firstOr}
 use Rattle.layout.specs.declared.Shape.{Shape}
 use Rattle.layout.specs.declared.Refusal.the-variants.{Range, Size, NoRoom, Small}
-use Rattle.layout.specs.Layout.{X, mapWords, shapeOf}
+use Rattle.layout.specs.Layout.{X, unitsFor, head, mapWords, afterHead, shapeOf}
 use Rattle.image.specs.Soundness.{mapped}
 use Rattle.image.specs.Verdicts.{verdict}
 use Rattle.image.specs.Free.{freeUnits, freeMaps}
@@ -18,7 +18,7 @@ use Rattle.steps.specs.declared.Step.{Step}
 use Rattle.steps.specs.declared.Step.the-variants.{Data, Map, Link, Fence}
 use Rattle.steps.specs.declared.Request.{Request}
 use Rattle.steps.specs.declared.Request.the-variants.{Write, Discard}
-use Rattle.steps.specs.Steps.{stepBytes, unitsFor, needOf, encodeAll}
+use Rattle.steps.specs.Steps.{stepBytes, needOf, encodeAll}
 use Rattle.rules.specs.Rules.{goodChunk, goodSize}
 use Rattle.planner.specs.declared.Planned.{Planned}
 use Rattle.planner.specs.declared.Planned.the-variants.{Steps, Refused}
@@ -33,30 +33,35 @@ dataStep us j = Data (getD us j 0) j 0
 unfoldable pub dataSteps : List ℕ → List Step
 dataSteps us = map (dataStep us) (below (length us))
 
--- what word j of the new map holds: "units, then X"
-unfoldable pub valueFor : List ℕ → ℕ → Value
-valueFor us j = cond (ltb j (length us)) (Number (getD us j 0)) Absent
+-- what the unit words of the new map hold: "units, then X"
+unfoldable pub unitValue : List ℕ → ℕ → Value
+unitValue us j = cond (ltb j (length us)) (Number (getD us j 0)) Absent
+
+-- what word j of the new map holds: in edition 2 "first the compressed size, then the units"; in edition 1 no word stands before these
+abbrev pub valueFor : ℕ → ℕ → List ℕ → ℕ → Value
+valueFor heads size us = afterHead heads (Number size) (unitValue us)
 
 -- word j of map m
-abbrev pub mapStep : ℕ → List ℕ → ℕ → Step
-mapStep m us j = Map m j (valueFor us j)
+abbrev pub mapStep : ℕ → ℕ → ℕ → List ℕ → ℕ → Step
+mapStep heads size m us j = Map m j (valueFor heads size us j)
 
--- "MAP for words 0 to P-1"
-unfoldable pub mapSteps : ℕ → List ℕ → ℕ → List Step
-mapSteps m us words = map (mapStep m us) (below words)
+-- "MAP for words 0 to P-1"; in edition 2 to P
+unfoldable pub mapSteps : ℕ → ℕ → ℕ → List ℕ → ℕ → List Step
+mapSteps heads size m us words = map (mapStep heads size m us) (below words)
 
 -- "FENCE; LINK; FENCE": the first makes units and map durable before LINK, the last makes LINK durable before old units are used again
 abbrev pub linkSteps : ℕ → ℕ → List Step
 linkSteps i m = Fence ∷ Link i (Number m) ∷ Fence ∷ []
 
--- a write of chunk i on these units and map m, which has `words` words
-unfoldable pub writeSteps : List ℕ → ℕ → ℕ → ℕ → List Step
-writeSteps us m words i = dataSteps us ++ (mapSteps m us words ++ linkSteps i m)
+-- a write of `size` bytes to chunk i on these units and map m, which has `words` words, `heads` of them before the units
+unfoldable pub writeSteps : ℕ → ℕ → List ℕ → ℕ → ℕ → ℕ → List Step
+writeSteps heads size us m words i = dataSteps us ++ (mapSteps heads size m us words ++ linkSteps i m)
 
 unfoldable pub planOf : List ℕ → Request → List Step
 -- "on the k lowest free units, rising": the first k of the rising list; "the lowest free map": the first of its list. What the chunk itself holds is not
 -- free: old units may be read until the new LINK is durable.
-planOf s (Write i size) = writeSteps (take (unitsFor size) (freeUnits s)) (firstOr X (freeMaps s)) (mapWords (shapeOf s)) i
+planOf s (Write i size) =
+    let g = shapeOf s in writeSteps (head g) size (take (unitsFor size) (freeUnits s)) (firstOr X (freeMaps s)) (mapWords g) i
 -- "Discard of a mapped chunk: LINK to X, FENCE. Of an unmapped one: an empty plan."
 planOf s (Discard i) = cond (mapped s i) (Link i Absent ∷ Fence ∷ []) []
 

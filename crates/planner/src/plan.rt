@@ -3,12 +3,14 @@ use crate::Planned;
 use crate::taking::lowest;
 use bitset::next_member;
 use checker::check::good_size;
-use checker::check::is_mapped;
 use image::Verdict;
 use image::load::load;
+use image::maps::is_mapped;
 use layout::Refusal;
 use layout::Shape;
-use layout::UNIT_BYTES;
+use layout::geometry::head;
+use layout::geometry::map_words;
+use layout::geometry::units_for;
 use steps::Request;
 use steps::STEP_BYTES;
 use steps::Step;
@@ -20,11 +22,12 @@ ghost use mathlib.Core.List.{[], _∷_};
 ghost use Prim.Native.Nat.{_+_, _*_, _≤_, _<_};
 ghost use lib.ListN.{length, take};
 ghost use Rattle.bitset.specs.Bits.{limit, members, bitSet};
+ghost use Rattle.layout.specs.Layout.{maxChunkUnits, maxChunkBytes, maxMapWords};
 ghost use Rattle.layout.specs.Shaped.{On};
 ghost use Rattle.image.specs.Free.{freeUnit, freeMap};
 ghost use Rattle.image.specs.Loading.{unitSetWords, mapSetWords};
-ghost use Rattle.steps.specs.Steps.{putSteps};
-ghost use Rattle.planner.specs.Planner.{dataSteps, valueFor, mapSteps, linkSteps, writeSteps, planOf, ifRoom, planIn, planAnswer, written, planOut};
+ghost use Rattle.steps.specs.Steps.{stepBytes, putSteps};
+ghost use Rattle.planner.specs.Planner.{dataSteps, unitValue, valueFor, mapSteps, linkSteps, writeSteps, planOf, ifRoom, planIn, planAnswer, written, planOut};
 ghost use Rattle.planner.specs.Planning.{writeOn, writeAnswer};
 
 // The steps of a write but its DATA and MAP steps: FENCE, LINK, FENCE.
@@ -35,7 +38,7 @@ const DISCARD_STEPS: usize = 2;
 
 // DATA for pieces 0 to k - 1 on the first `k` units, from step `at` on.
 fn put_data(out: &mut [u8], at: usize, units: &[u32], k: usize)
-    requires { ⌜ (k ≤ 16) × (k ≤ length (now units)) × (16 * (at + k) ≤ length (now out)) ⌝ }
+    requires { ⌜ (k ≤ maxChunkUnits) × (k ≤ length (now units)) × (stepBytes * (at + k) ≤ length (now out)) ⌝ }
     ensures { λ r. ⌜ now (out .exit) ≡ putSteps (now (out .entry)) at (dataSteps (take k (now (units .entry)))) ⌝ }
 {
     let mut j: usize = 0;
@@ -54,10 +57,10 @@ fn put_data(out: &mut [u8], at: usize, units: &[u32], k: usize)
     }
 }
 
-// What word `j` of a map holds that has the first `k` units.
-fn value_for(units: &[u32], k: usize, j: usize) -> Value
+// What unit word `j` of a map holds that has the first `k` units.
+fn unit_value(units: &[u32], k: usize, j: usize) -> Value
     requires { ⌜ k ≤ length (now units) ⌝ }
-    ensures { λ r. ⌜ r ≡ valueFor (take k (now (units .entry))) j ⌝ }
+    ensures { λ r. ⌜ r ≡ unitValue (take k (now (units .entry))) j ⌝ }
 {
     if j < k {
         return Value::Number(units[j]);
@@ -65,14 +68,34 @@ fn value_for(units: &[u32], k: usize, j: usize) -> Value
     Value::Absent
 }
 
+// What word `j` of a map holds that has a size in its first `heads` words, and the first `k` units.
+fn value_for(heads: usize, size: u32, units: &[u32], k: usize, j: usize) -> Value
+    requires { ⌜ k ≤ length (now units) ⌝ }
+    ensures { λ r. ⌜ r ≡ valueFor heads size (take k (now (units .entry))) j ⌝ }
+{
+    if j < heads {
+        return Value::Number(size);
+    }
+    unit_value(units, k, j - heads)
+}
+
 // MAP for the words of a map that has the first `k` units, from step `at` on.
-fn put_maps(out: &mut [u8], at: usize, map: u32, units: &[u32], k: usize, words: usize)
-    requires { ⌜ (words ≤ 16) × (k ≤ length (now units)) × (16 * (at + words) ≤ length (now out)) ⌝ }
-    ensures { λ r. ⌜ now (out .exit) ≡ putSteps (now (out .entry)) at (mapSteps map (take k (now (units .entry))) words) ⌝ }
+fn put_maps(
+    out: &mut [u8],
+    at: usize,
+    heads: usize,
+    size: u32,
+    map: u32,
+    units: &[u32],
+    k: usize,
+    words: usize,
+)
+    requires { ⌜ (words ≤ maxMapWords) × (k ≤ length (now units)) × (stepBytes * (at + words) ≤ length (now out)) ⌝ }
+    ensures { λ r. ⌜ now (out .exit) ≡ putSteps (now (out .entry)) at (mapSteps heads size map (take k (now (units .entry))) words) ⌝ }
 {
     let mut j: usize = 0;
     while j < words {
-        let value = value_for(units, k, j);
+        let value = value_for(heads, size, units, k, j);
         put_step(
             out,
             at + j,
@@ -88,7 +111,7 @@ fn put_maps(out: &mut [u8], at: usize, map: u32, units: &[u32], k: usize, words:
 
 // FENCE, LINK to a map, FENCE, from step `at` on.
 fn put_link(out: &mut [u8], at: usize, chunk: u32, map: u32)
-    requires { ⌜ 16 * (at + 3) ≤ length (now out) ⌝ }
+    requires { ⌜ stepBytes * (at + 3) ≤ length (now out) ⌝ }
     ensures { λ r. ⌜ now (out .exit) ≡ putSteps (now (out .entry)) at (linkSteps chunk map) ⌝ }
 {
     put_step(out, at, Step::Fence);
@@ -104,12 +127,21 @@ fn put_link(out: &mut [u8], at: usize, chunk: u32, map: u32)
 }
 
 // The steps of a write on the first `k` units.
-fn put_write(out: &mut [u8], units: &[u32], k: usize, map: u32, words: usize, chunk: u32)
-    requires { ⌜ (k ≤ 16) × (words ≤ 16) × (k ≤ length (now units)) × (16 * (k + words + 3) ≤ length (now out)) ⌝ }
-    ensures { λ r. ⌜ now (out .exit) ≡ putSteps (now (out .entry)) 0 (writeSteps (take k (now (units .entry))) map words chunk) ⌝ }
+fn put_write(
+    out: &mut [u8],
+    heads: usize,
+    size: u32,
+    units: &[u32],
+    k: usize,
+    map: u32,
+    words: usize,
+    chunk: u32,
+)
+    requires { ⌜ (k ≤ maxChunkUnits) × (words ≤ maxMapWords) × (k ≤ length (now units)) × (stepBytes * (k + words + 3) ≤ length (now out)) ⌝ }
+    ensures { λ r. ⌜ now (out .exit) ≡ putSteps (now (out .entry)) 0 (writeSteps heads size (take k (now (units .entry))) map words chunk) ⌝ }
 {
     put_data(out, 0, units, k);
-    put_maps(out, k, map, units, k, words);
+    put_maps(out, k, heads, size, map, units, k, words);
     put_link(out, k + words, chunk, map);
 }
 
@@ -117,21 +149,22 @@ fn put_write(out: &mut [u8], units: &[u32], k: usize, map: u32, words: usize, ch
 fn write_on(
     units: &[u64],
     maps: &[u64],
+    heads: usize,
     words: usize,
     chunk: u32,
     size: u64,
     out: &mut [u8],
 ) -> Planned
     requires { ⌜ (limit (now units) < 4294967296) × (limit (now maps) < 4294967296) × (0 < length (members (now maps))) ⌝ }
-    requires { ⌜ (words ≤ 16) × (size ≤ 65536) ⌝ }
+    requires { ⌜ (words ≤ maxMapWords) × (size ≤ maxChunkBytes) ⌝ }
     ensures { λ r. ⌜ r ≡ writeAnswer (now (units .entry)) words size (length (now (out .entry))) ⌝ }
     ensures { λ r. ⌜
         now (out .exit)
         ≡ written (writeAnswer (now (units .entry)) words size (length (now (out .entry))))
-        (writeOn (now (units .entry)) (now (maps .entry)) words chunk size) (now (out .entry))
+        (writeOn heads (now (units .entry)) (now (maps .entry)) words chunk size) (now (out .entry))
         ⌝ }
 {
-    let k = ((size + (UNIT_BYTES - 1)) / UNIT_BYTES) as usize;
+    let k = units_for(size) as usize;
     let steps = k + words + LINK_STEPS;
     let taken = lowest(units, k);
     let free = taken.count;
@@ -143,7 +176,16 @@ fn write_on(
     }
     let map = next_member(maps, 0);
     let chosen = taken.units;
-    put_write(out, &chosen, k, map as u32, words, chunk);
+    put_write(
+        out,
+        heads,
+        size as u32,
+        &chosen,
+        k,
+        map as u32,
+        words,
+        chunk,
+    );
     Planned::Steps(steps as u32)
 }
 
@@ -199,8 +241,9 @@ fn write_in(
     if !good_size(g, Request::Write { chunk, size }) {
         return Planned::Refused(Refusal::Size);
     }
-    let words = g.p as usize;
-    write_on(units, maps, words, chunk as u32, size, out)
+    let heads = head(g) as usize;
+    let words = map_words(g) as usize;
+    write_on(units, maps, heads, words, chunk as u32, size, out)
 }
 
 // The answer to a discard on a sound image, of which the shape is known: refusals 7 and 10.

@@ -1,7 +1,6 @@
 -- `planner::plan::put_maps` meets its contract: the steps left to store from turn j on give all.
 use Prim.Native.Nat.{_+_, _-_, _≤_}
 use native.Mathlib.Omega.{arith}
-use mathlib.Core.List as list
 use mathlib.Core.List.{[], _∷_}
 use mathlib.Core.Path.{_≡_, refl, ap, sym, _∙_}
 use lib.ListN.{length, take}
@@ -14,20 +13,22 @@ use Rattle.steps.proofs.Encoding.{length-putSteps}
 use Rattle.planner.specs.Planner.{mapStep, mapSteps}
 use Rattle.planner.proofs.Storing.{steps-start, steps-turn, steps-end}
 use Rattle.planner.proofs.plan.put_maps.Statement.{statement}
+use mathlib.Core.List as list
 use Rattle.planner.proofs.plan.put_maps.Tie as tie
 
 abbrev Inv-loop : tie.InvT-loop
-Inv-loop out₀ at map units k words j₀ out j =
+Inv-loop out₀ at heads size map units k words j₀ out j =
     (j ≤ words) × (length out ≡ length out₀)
-    × (putSteps out (at + j) (list.map (mapStep map (take k units)) (from j (words - j))) ≡ putSteps out₀ at (list.map (mapStep map (take k units)) (below words)))
+    × (putSteps out (at + j) (list.map (mapStep heads size map (take k units)) (from j (words - j)))
+    ≡ putSteps out₀ at (list.map (mapStep heads size map (take k units)) (below words)))
 
 abbrev μ-loop : tie.MeasureT-loop
-μ-loop out₀ at map units k words j₀ out j = words - j
+μ-loop out₀ at heads size map units k words j₀ out j = words - j
 
 loop-holds : tie.Need-loop-holds Inv-loop μ-loop
 loop-holds c =
     let a = c .before .before .args in
-    (zero≤, refl, steps-start (mapStep (a .map) (take (a .k) (a .units .now))) (a .out .now) (a .at) (a .words))
+    (zero≤, refl, steps-start (mapStep (a .heads) (a .size) (a .map) (take (a .k) (a .units .now))) (a .out .now) (a .at) (a .words))
 
 value-for-requires : tie.Need-value-for-requires Inv-loop μ-loop
 value-for-requires c κs = search needs
@@ -35,8 +36,8 @@ value-for-requires c κs = search needs
 add-put-step : tie.Need-add-put-step Inv-loop μ-loop
 add-put-step c = search needs
 
-cast-t14 : tie.Need-cast-t14 Inv-loop μ-loop
-cast-t14 c = search needs
+cast-t16 : tie.Need-cast-t16 Inv-loop μ-loop
+cast-t16 c = search needs
 
 put-step-requires : tie.Need-put-step-requires Inv-loop μ-loop
 put-step-requires c κs = search needs
@@ -51,7 +52,7 @@ loop-again : tie.Need-loop-again Inv-loop μ-loop
 loop-again c =
     let a = c .before .before .before .before .before .before .before .before .before .args in
     let l = c .before .before .before .before .before .before .loop in
-    let f = mapStep (a .map) (take (a .k) (a .units .now)) in
+    let f = mapStep (a .heads) (a .size) (a .map) (take (a .k) (a .units .now)) in
     let put = c .before .before .put-step .ensures ∙ ap (λ (v : Value). putSteps (l .out) (a .at + l .j) (Map (a .map) (l .j) v ∷ [])) (c .before .before .before .before .value-for .ensures) in
     (omega arith, ap length put ∙ length-putSteps _ _ _ ∙ l .inv .1, rw put (steps-turn f (l .out) (a .at) (a .words) (l .j) (omega arith) ∙ l .inv .2))
 
@@ -63,7 +64,7 @@ unfolding mapSteps
 returns c =
     let a = c .before .before .before .before .args in
     let l = c .before .loop in
-    let f = mapStep (a .map) (take (a .k) (a .units .now)) in
+    let f = mapStep (a .heads) (a .size) (a .map) (take (a .k) (a .units .now)) in
     sym (steps-end f (l .out) (a .at) (a .words) (l .j) (omega arith)) ∙ l .inv .2
 
 pub put-maps-spec : {M : Type 1} → statement M
@@ -75,7 +76,7 @@ put-maps-spec =
     loop-holds
     value-for-requires
     add-put-step
-    cast-t14
+    cast-t16
     put-step-requires
     add-j
     loop-less

@@ -26,7 +26,7 @@ returns : tie.Need-returns
 returns c =
     let a = c .before .before .before .before .before .before .before .before .before .before .before .before .before .before .args in
     let us = take (a .k) (a .units .now) in
-    cc (write-stored (a .out .now) us (a .k) (a .map) (a .words) (a .chunk) (length-take-le (a .k) (a .units .now) (omega arith)))
+    cc (write-stored (a .out .now) (a .heads) (a .size) us (a .k) (a .map) (a .words) (a .chunk) (length-take-le (a .k) (a .units .now) (omega arith)))
 
 pub put-write-spec : {M : Type 1} → statement M
 put-write-spec =

@@ -1,21 +1,23 @@
--- `planner::plan::value_for` meets its contract.
-use native.Mathlib.Omega.{arith}
+-- `planner::plan::value_for` meets its contract: the size in the words before the units, by `in-head`, and then a unit's value, by `past-head`.
+use Rattle.steps.specs.declared.Value.the-variants.{Number}
+use lib.ListN.{take}
+use Rattle.planner.specs.Planner.{unitValue}
+use Rattle.layout.proofs.Heads.{in-head, past-head}
+use mathlib.Core.Path.{sym, _∙_}
 use borrow.Author.Needs.{needs}
-use Rattle.planner.proofs.Storing.{value-unit, value-past}
 use Rattle.planner.proofs.plan.value_for.Statement.{statement}
 use Rattle.planner.proofs.plan.value_for.Tie as tie
 
-mul-t5 : tie.Need-mul-t5
-mul-t5 c = search needs
-
-shared-slice-read-t7 : tie.Need-shared-slice-read-t7
-shared-slice-read-t7 c = search needs
-
 returns : tie.Need-returns
-returns c = let a = c .before .before .args in value-unit (a .units .now) (a .k) (omega arith) (a .j) (c .before .if1 .taken)
+returns c = let a = c .before .before .args in
+    sym (in-head (a .heads) (Number (a .size)) (unitValue (take (a .k) (a .units .now))) (a .j) (c .if1 .taken))
+
+unit-value-requires : tie.Need-unit-value-requires
+unit-value-requires c κs = search needs
 
 returns-2 : tie.Need-returns-2
-returns-2 c = let a = c .before .args in value-past (a .units .now) (a .k) (omega arith) (a .j) (c .if1 .left)
+returns-2 c = let a = c .before .before .before .args in
+    c .unit-value .ensures ∙ sym (past-head (a .heads) (Number (a .size)) (unitValue (take (a .k) (a .units .now))) (a .j) (c .before .if1 .left))
 
 pub value-for-spec : {M : Type 1} → statement M
-value-for-spec = tie.close (tie.spec mul-t5 shared-slice-read-t7 returns returns-2)
+value-for-spec = tie.close (tie.spec returns unit-value-requires returns-2)
