@@ -6,8 +6,9 @@ use mathlib.Core.Bool.{true, false}
 use mathlib.Core.List.{List}
 use borrow.Author.Tests.{eq-eqb}
 use Rattle.layout.specs.declared.Shape.{Shape}
-use Rattle.layout.specs.Layout.{linkOf}
+use Rattle.layout.specs.Layout.{shapeOf, linkOf}
 use Rattle.image.specs.Soundness.{unitsOf, Sound}
+use Rattle.image.specs.Stored.{storedSize}
 use Rattle.image.proofs.Wording.{sound-shape}
 use Rattle.image.proofs.Freed.{freed-unit, freed-map}
 use Rattle.image.proofs.Theorems.{sound-loads}
@@ -17,7 +18,7 @@ use Rattle.rules.specs.declared.Checked.the-variants.{Accepted}
 use Rattle.rules.specs.Rules.{checked}
 use Rattle.carry.specs.Carry.{carryImage}
 use Rattle.durable.specs.Events.{Volume, Event, complete, goesAhead, settle, after}
-use Rattle.durable.specs.LoadsBack.{newLink, newUnits, LoadsBack}
+use Rattle.durable.specs.LoadsBack.{newLink, newSize, newUnits, LoadsBack}
 use Rattle.durable.proofs.Requests.{Settled}
 use Rattle.durable.proofs.Carrying.{as-carry}
 use Rattle.durable.proofs.Effect.{Intact, sound-intact, intact-sound, after-ahead, whole-ahead, whole-finished, here, settled, chunk-in, landed-whole, event-intact}
@@ -55,23 +56,33 @@ module _ (g : Shape) (s : List ℕ) (r : Request) (plan : List ℕ) (z : Sound g
   sound-now : Sound g t
   sound-now = subst (Sound g) same-after (intact-sound g (after v e .image) (event-intact g v e d))
 
-  own : (linkOf t (chunkOf r) ≡ newLink r (stepsOf plan)) × (unitsOf t (chunkOf r) ≡ newUnits r (stepsOf plan))
-  own = subst (λ (x : List ℕ). (linkOf x (chunkOf r) ≡ newLink r (stepsOf plan)) × (unitsOf x (chunkOf r) ≡ newUnits r (stepsOf plan))) same (leaves .own whole)
+  -- what the request's chunk has in an image, and what another has
+  abbrev Own : List ℕ → Type 0
+  Own x =
+      (linkOf x (chunkOf r) ≡ newLink r (stepsOf plan)) × (storedSize x (chunkOf r) ≡ newSize (shapeOf s) r)
+      × (unitsOf x (chunkOf r) ≡ newUnits r (stepsOf plan))
 
-  others : (i : ℕ) → i < g .c → i ≢ chunkOf r → (linkOf t i ≡ linkOf s i) × (unitsOf t i ≡ unitsOf s i)
+  abbrev Other : ℕ → List ℕ → Type 0
+  Other i x = (linkOf x i ≡ linkOf s i) × (storedSize x i ≡ storedSize s i) × (unitsOf x i ≡ unitsOf s i)
+
+  own : Own t
+  own = subst Own same (leaves .own whole)
+
+  others : (i : ℕ) → i < g .c → i ≢ chunkOf r → Other i t
   others i b n =
-      subst (λ (x : List ℕ). (linkOf x i ≡ linkOf s i) × (unitsOf x i ≡ unitsOf s i)) same
+      subst (Other i) same
       (leaves .others i (subst (λ (h : Shape). i < h .c) (sym (sound-shape g s z)) b) n)
 
-  pub loads-back : LoadsBack g s (chunkOf r) (newLink r (stepsOf plan)) (newUnits r (stepsOf plan)) (carryImage s r plan (wholeSteps plan))
+  pub loads-back : LoadsBack g s (chunkOf r) (newLink r (stepsOf plan)) (newSize g r) (newUnits r (stepsOf plan)) (carryImage s r plan (wholeSteps plan))
   loads-back =
       let b = chunk-in g v e d takes in
       record {
         sound = sound-now;
         loads = sound-loads g t sound-now;
         entry = own .0;
-        units = own .1;
+        stored = own .1 ∙ ap (λ (h : Shape). newSize h r) (sound-shape g s z);
+        units = own .2;
         others = others;
-        free-units = freed-unit g s t z sound-now (chunkOf r) b (newUnits r (stepsOf plan)) (own .1) (λ i h n. others i h n .1);
+        free-units = freed-unit g s t z sound-now (chunkOf r) b (newUnits r (stepsOf plan)) (own .2) (λ i h n. others i h n .2);
         free-maps = freed-map g s t z sound-now (chunkOf r) b (newLink r (stepsOf plan)) (own .0) (λ i h n. others i h n .0);
       }

@@ -8,9 +8,11 @@ use mathlib.Core.List.{List}
 use Rattle.layout.specs.declared.Shape.{Shape}
 use Rattle.layout.specs.Layout.{shapeOf, linkOf}
 use Rattle.image.specs.Soundness.{unitsOf}
+use Rattle.image.specs.Stored.{storedSize}
 use Rattle.search.proofs.Bools.{is-true, either}
 use Rattle.image.proofs.Order.{Orderly, Apart}
 use Rattle.image.proofs.Fate.{Renewed, Fate, same-units, orderly-after, kept}
+use Rattle.image.proofs.Storing.{same-size}
 use Rattle.steps.specs.declared.Step.{Step}
 use Rattle.steps.specs.Steps.{stepsOf}
 use Rattle.durable.specs.Events.{Volume, Event, settle, holds}
@@ -36,6 +38,9 @@ module _ {A : Type 0} (v : Volume A) (e : Event A) (d : Orderly (shapeOf (v .ima
 
     pub still-units : (i : ℕ) → i < g .c → linkLandsOn e i 0 xs ≡ false → unitsOf (t .image) i ≡ unitsOf s i
     still-units i b h = same-units g s (t .image) (d .on) (left-on v e g xs (d .on) k) i (same-chunk v e g xs (d .on) k i b (still i b h))
+
+    pub still-size : (i : ℕ) → i < g .c → linkLandsOn e i 0 xs ≡ false → storedSize (t .image) i ≡ storedSize s i
+    still-size i b h = same-size g s (t .image) i (d .on) (left-on v e g xs (d .on) k) (same-chunk v e g xs (d .on) k i b (still i b h))
 
     pub still-holds : (i : ℕ) → i < g .c → linkLandsOn e i 0 xs ≡ false → holds t i ≡ holds v i
     still-holds i b h = same-holds v e g xs (d .on) k i b (still i b h)

@@ -10,15 +10,17 @@ use lib.Dec.{eqb}
 use borrow.Author.Tests.{eqb-true, eqb-false, ltb-true}
 use Rattle.layout.specs.declared.Shape.{Shape}
 use Rattle.search.specs.Search.{from}
-use Rattle.layout.specs.Layout.{X, mapWords, shapeOf, linkOf}
+use Rattle.layout.specs.Layout.{X, mapWords, shapeOf, linkOf, unitsFor}
 use Rattle.image.specs.Soundness.{mapped, unitsOf}
+use Rattle.image.specs.Stored.{storedSize}
 use Rattle.search.proofs.Bools.{contradict, either, cond-true, cond-false}
 use Rattle.image.proofs.Chunks.{units-unmapped, unmapped-absent}
 use Rattle.image.proofs.Order.{Orderly}
+use Rattle.image.proofs.Storing.{stored-unmapped, kept-none}
 use Rattle.steps.specs.declared.Step.{Step}
 use Rattle.steps.specs.declared.Request.{Request}
 use Rattle.steps.specs.declared.Request.the-variants.{Write, Discard}
-use Rattle.steps.specs.Steps.{unitsFor, stepsOf, chunkOf}
+use Rattle.steps.specs.Steps.{stepsOf, chunkOf}
 use Rattle.rules.specs.Rules.{links, isNone, endsIn, planMap, unitOf}
 use Rattle.checker.proofs.Accepting.{Passed}
 use Rattle.steps.specs.Encodable.{Each}
@@ -26,14 +28,14 @@ use Rattle.steps.proofs.Codec.{each-map}
 use Rattle.rules.proofs.StepLaws.{InRange, Links, OnLink, on-links, each-in-range}
 use Rattle.rules.proofs.Facts.{Writes, writes, Discards, discards, discards-nothing}
 use Rattle.durable.specs.Events.{Volume, Event, lands, complete, settle, linkLands, holds, newPieces}
-use Rattle.durable.specs.LoadsBack.{newLink, newUnits}
+use Rattle.durable.specs.LoadsBack.{newLink, newSize, newUnits}
 use Rattle.durable.proofs.Settle.{Solid, settle-nil, set-content}
 use Rattle.durable.proofs.Linking.{linkLandsOn, lands-own, lands-other, set-link}
 use Rattle.durable.proofs.Fences.{solid, complete-link, all-landed}
 use Rattle.durable.proofs.Careful.{Careful, careful-write, careful-discard, holds-is}
-use Rattle.durable.proofs.Core.{still, still-units, still-holds}
-use Rattle.durable.proofs.Jobs.{Job, puts, clears, given, dealt, job-units, job-holds, jobs-orderly}
-use Rattle.layout.proofs.Limits.{fitting-limits}
+use Rattle.durable.proofs.Core.{still, still-units, still-size, still-holds}
+use Rattle.durable.proofs.Jobs.{Job, puts, clears, given, dealt, kept, job-units, job-size, job-holds, jobs-orderly}
+use Rattle.layout.proofs.Limits.{fitting-limits, map-words}
 
 module _ {A : Type 0} (v : Volume A) (e : Event A) (d : Orderly (shapeOf (v .image)) (v .image)) where
   abbrev s : List ℕ
@@ -55,19 +57,22 @@ module _ {A : Type 0} (v : Volume A) (e : Event A) (d : Orderly (shapeOf (v .ima
     pub new : (linkLands e 0 (stepsOf (e .plan)) ≡ true) ⊎ (complete e ≡ true) → (i : ℕ) → i < shapeOf (v .image) .c
         → holds (settle e 0 (stepsOf (e .plan)) v) i ≡ cond (eqb i (chunkOf r)) (newPieces r (e .payload)) (holds v i)
     pub whole : complete e ≡ true → (i : ℕ) → i < length (stepsOf (e .plan)) → lands e i ≡ true
-    -- the entry and the units of the request's chunk, and of every other
+    -- the entry, the stored size and the units of the request's chunk, and of every other
     pub own : complete e ≡ true
         → (linkOf (settle e 0 (stepsOf (e .plan)) v .image) (chunkOf r) ≡ newLink r (stepsOf (e .plan)))
+        × (storedSize (settle e 0 (stepsOf (e .plan)) v .image) (chunkOf r) ≡ newSize (shapeOf (v .image)) r)
         × (unitsOf (settle e 0 (stepsOf (e .plan)) v .image) (chunkOf r) ≡ newUnits r (stepsOf (e .plan)))
     pub others : (i : ℕ) → i < shapeOf (v .image) .c → i ≢ chunkOf r
         → (linkOf (settle e 0 (stepsOf (e .plan)) v .image) i ≡ linkOf (v .image) i)
+        × (storedSize (settle e 0 (stepsOf (e .plan)) v .image) i ≡ storedSize (v .image) i)
         × (unitsOf (settle e 0 (stepsOf (e .plan)) v .image) i ≡ unitsOf (v .image) i)
 
   -- ---- a careful plan with LINKs, all of chunk c
 
   module _ (r : Request) (b : chunkOf r < g .c) (k : Careful g s xs) (l : Each (OnLink (chunkOf r) (newLink r xs)) xs) (a : isNone (links xs) ≡ false)
       (ends : endsIn false xs ≡ true) (job : linkLands e 0 xs ≡ true → Job v e xs (chunkOf r))
-      (right : (p : linkLands e 0 xs ≡ true) → (given (job p) ≡ newPieces r (e .payload)) × (dealt (job p) ≡ newUnits r xs)) where
+      (right : (p : linkLands e 0 xs ≡ true)
+      → (given (job p) ≡ newPieces r (e .payload)) × (kept (job p) ≡ newSize g r) × (dealt (job p) ≡ newUnits r xs)) where
     abbrev c : ℕ
     c = chunkOf r
 
@@ -118,9 +123,14 @@ module _ {A : Type 0} (v : Volume A) (e : Event A) (d : Orderly (shapeOf (v .ima
       whole = all;
       own = λ p. let q : linkLands e 0 xs ≡ true = some (inr p) in (
         set-link e g c b w 0 xs v (d .on) (k .range) (each-map (OnLink c w) (Links c w) xs (on-links c w) l) (lands-here ∙ q),
-        job-units v e d k c b (lands-here ∙ q) (job q) ∙ right q .1,
+        job-size v e d k c b (lands-here ∙ q) (job q) ∙ right q .1,
+        job-units v e d k c b (lands-here ∙ q) (job q) ∙ right q .2,
       );
-      others = λ i q n. (still v e d k i q (lands-elsewhere i n), still-units v e d k i q (lands-elsewhere i n));
+      others = λ i q n. (
+        still v e d k i q (lands-elsewhere i n),
+        still-size v e d k i q (lands-elsewhere i n),
+        still-units v e d k i q (lands-elsewhere i n),
+      );
     }
 
   -- ---- the three requests
@@ -130,14 +140,14 @@ module _ {A : Type 0} (v : Volume A) (e : Event A) (d : Orderly (shapeOf (v .ima
       settled (Write c size) b (careful-write s c size xs r h) (h .on-link)
       (h .guarded .a-link) (h .guarded .last)
       (λ p. let z : Solid e 0 xs = solid e xs refl (h .guarded) p in
-      puts (unitsFor size) (planMap xs) (λ j. unitOf j xs) (e .payload) (h .deal) z (λ j q. set-content e j 0 xs v (h .units-differ) (h .has-piece j q) z))
-      (λ p. (refl, refl))
+      puts size (unitsFor size) (planMap xs) (λ j. unitOf j xs) (e .payload) (h .deal) z (λ j q. set-content e j 0 xs v (h .units-differ) (h .has-piece j q) z))
+      (λ p. (refl, refl, refl))
 
   settled-discard : (c : ℕ) → Each (InRange g) xs → c < g .c → Discards c xs → Settled (Discard c)
   unfolding from
   settled-discard c r b h =
       settled (Discard c) b (careful-discard s c xs r h) (h .on-link)
-      (h .a-link) (h .last) (λ p. clears (each-map (OnLink c X) (Links c X) xs (on-links c X) (h .on-link))) (λ p. (refl, refl))
+      (h .a-link) (h .last) (λ p. clears (each-map (OnLink c X) (Links c X) xs (on-links c X) (h .on-link))) (λ p. (refl, sym (kept-none g), refl))
 
   settled-nothing : (c : ℕ) → mapped s c ≡ false → xs ≡ [] → Settled (Discard c)
   unfolding from
@@ -146,8 +156,16 @@ module _ {A : Type 0} (v : Volume A) (e : Event A) (d : Orderly (shapeOf (v .ima
     old = λ p q i b. ap (λ (w : Volume A). holds w i) same;
     new = λ p i b. ap (λ (w : Volume A). holds w i) same ∙ go i (either (eqb i c));
     whole = λ q i b. absurd (let z = ap length n in omega arith);
-    own = λ q. (ap (λ (w : Volume A). linkOf (w .image) c) same ∙ unmapped-absent s c m, ap (λ (w : Volume A). unitsOf (w .image) c) same ∙ units-unmapped s c m);
-    others = λ i b q. (ap (λ (w : Volume A). linkOf (w .image) i) same, ap (λ (w : Volume A). unitsOf (w .image) i) same);
+    own = λ q. (
+      ap (λ (w : Volume A). linkOf (w .image) c) same ∙ unmapped-absent s c m,
+      ap (λ (w : Volume A). storedSize (w .image) c) same ∙ stored-unmapped s c m ∙ sym (kept-none g),
+      ap (λ (w : Volume A). unitsOf (w .image) c) same ∙ units-unmapped s c m,
+    );
+    others = λ i b q. (
+      ap (λ (w : Volume A). linkOf (w .image) i) same,
+      ap (λ (w : Volume A). storedSize (w .image) i) same,
+      ap (λ (w : Volume A). unitsOf (w .image) i) same,
+    );
   }
     where
       same : t ≡ v
@@ -160,7 +178,7 @@ module _ {A : Type 0} (v : Volume A) (e : Event A) (d : Orderly (shapeOf (v .ima
       go i (inr q) = sym (cond-false (eqb i c) [] (holds v i) q)
 
   words-some : {r : Request} → Passed (v .image) r (e .plan) → 1 ≤ mapWords (shapeOf (v .image))
-  words-some p = let l = fitting-limits s (p .sound .fitting) in omega (arith, l .p-low)
+  words-some p = let l = fitting-limits s (p .sound .fitting) in omega (arith, l .p-low, map-words (shapeOf s))
 
   pub settled-any : (r : Request) → Passed (v .image) r (e .plan) → Settled r
   settled-any (Write c size) p =

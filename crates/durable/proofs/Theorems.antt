@@ -34,7 +34,7 @@ use Rattle.planner.proofs.Theorems.{answered, written-is-plan}
 use Rattle.durable.specs.Events.{Volume, finished, holds}
 use Rattle.durable.specs.Demand.{Demand, DemandAfterRepair}
 use Rattle.durable.specs.Own.{ownEvent, OwnDelivers}
-use Rattle.durable.specs.LoadsBack.{LoadsBack, newUnits, PlansLoadBack, ownLink, ownUnits, OwnLoadsBack, WrittenLoadsBack}
+use Rattle.durable.specs.LoadsBack.{LoadsBack, newSize, newUnits, PlansLoadBack, ownLink, ownUnits, OwnLoadsBack, WrittenLoadsBack}
 use Rattle.durable.proofs.Careful.{holds-is}
 use Rattle.durable.proofs.Effect.{sound-intact, whole-finished, finished-ahead}
 use Rattle.durable.proofs.Back.{loads-back}
@@ -96,8 +96,8 @@ own-loads-back g s (Write i size) z k h =
     let plan = encodeAll (planOf s (Write i size)) in
     let read = plan-read s i size t gc gs h in
     let left = carryImage s (Write i size) plan (wholeSteps plan) in
-    subst (λ (us : List ℕ). LoadsBack g s i (firstOr X (freeMaps s)) us left) (ap (newUnits (Write i size)) read ∙ plan-pieces s i size t gc gs h)
-    (subst (λ (l : ℕ). LoadsBack g s i l (newUnits (Write i size) (stepsOf plan)) left) (ap planMap read ∙ plan-map s i size t gc gs h)
+    subst (λ (us : List ℕ). LoadsBack g s i (firstOr X (freeMaps s)) (newSize g (Write i size)) us left) (ap (newUnits (Write i size)) read ∙ plan-pieces s i size t gc gs h)
+    (subst (λ (l : ℕ). LoadsBack g s i l (newSize g (Write i size)) (newUnits (Write i size) (stepsOf plan)) left) (ap planMap read ∙ plan-map s i size t gc gs h)
     (loads-back g s (Write i size) plan z (own-accepted g s (Write i size) z k h)))
 own-loads-back g s (Discard i) z k h = loads-back g s (Discard i) (encodeAll (planOf s (Discard i))) z (own-accepted g s (Discard i) z k h)
 
@@ -107,5 +107,5 @@ written-loads-back g s r out n z e =
     let a = answered s r (length out) n e in
     let plan = encodeAll (planOf s r) in
     let count : wholeSteps plan ≡ n = whole-encoded (planOf s r) ∙ sym (a .steps) in
-    subst (LoadsBack g s (chunkOf r) (ownLink s r) (ownUnits s r)) (ap₂ (carryImage s r) (sym (written-is-plan s r out n e)) count)
+    subst (LoadsBack g s (chunkOf r) (ownLink s r) (newSize g r) (ownUnits s r)) (ap₂ (carryImage s r) (sym (written-is-plan s r out n e)) count)
     (own-loads-back g s r z (subst (λ (q : Shape). GoodRequest q r) (sound-shape g s z) (a .good .request)) (a .free))

@@ -1,25 +1,23 @@
 -- A chunk whose LINK landed, every DATA and MAP step with it: it is on its free map, with the units dealt to it, and holds what stands on them.
 use Prim.Native.Nat.{ℕ, _+_, _≤_, _<_}
 use mathlib.Core.Path.{_≡_, sym, ap, _∙_, subst}
-use mathlib.Core.Bool.{true, false}
-use mathlib.Core.List.{List, [], map, map-map}
+use mathlib.Core.Bool.{true}
+use mathlib.Core.List.{List, map, map-map}
 use native.Mathlib.Omega.{arith}
-use lib.Dec.{eqb}
-use borrow.Author.Tests.{lt-ltb, ne-eqb}
+use lib.ListN.{length, getD}
 use Rattle.layout.specs.declared.Shape.{Shape}
 use Rattle.search.specs.Search.{below, member, distinct}
-use Rattle.layout.specs.Layout.{X, isUnit, shapeOf, linkOf, wordsOf, wordAt, mapWordPlace, mapWords}
-use Rattle.image.specs.Soundness.{Form, leading, mapped, unitsOf}
-use Rattle.image.specs.Verdicts.{wellFormed}
-use Rattle.search.proofs.Bools.{contradict, not-of-false, cond-true}
-use Rattle.search.proofs.Mapping.{map-below-ext, length-map-from, getD-map-from, take-map-from, member-map-from, distinct-map-from}
+use Rattle.layout.specs.Layout.{head, afterHead, shapeOf, linkOf, wordsOf}
+use Rattle.image.specs.Soundness.{unitsOf}
+use Rattle.image.specs.Stored.{keptSize, storedSize}
+use Rattle.search.proofs.Bools.{contradict}
+use Rattle.search.proofs.Mapping.{map-below-ext, length-map-from, member-map-from, distinct-map-from}
 use Rattle.layout.specs.Shaped.{On}
-use Rattle.image.proofs.Order.{units-in}
 use Rattle.image.proofs.Fate.{Renewed}
-use Rattle.image.proofs.Leading.{form-leading, well-formed}
-use Rattle.layout.proofs.Limits.{absent-no-unit}
+use Rattle.image.proofs.Storing.{stored-mapped, kept-same}
+use Rattle.image.proofs.NewMap.{NewMap, new-size, new-form, new-mapped, new-units}
+use Rattle.layout.proofs.Limits.{below-unit}
 use Rattle.image.proofs.Room.{freeUnit-below, freeUnit-unheld, freeMap-below, freeMap-unnamed}
-use Rattle.layout.proofs.Place.{on-limits}
 use Rattle.steps.specs.declared.Step.{Step}
 use Rattle.steps.specs.Encodable.{Each}
 use Rattle.rules.proofs.StepLaws.{InRange}
@@ -29,8 +27,8 @@ use Rattle.durable.proofs.Settle.{Solid, on-settle, set-word}
 use Rattle.durable.proofs.Linking.{linkLandsOn, set-link}
 use Rattle.durable.proofs.Careful.{holds-is}
 
-module _ {A : Type 0} (v : Volume A) (e : Event A) (xs : List Step) (c k m : ℕ) (unit : ℕ → ℕ) (o : On (shapeOf (v .image)) (v .image))
-    (r : Each (InRange (shapeOf (v .image))) xs) (h : Deal (v .image) xs c k m unit) (b : c < shapeOf (v .image) .c) (solid : Solid e 0 xs)
+module _ {A : Type 0} (v : Volume A) (e : Event A) (xs : List Step) (c size k m : ℕ) (unit : ℕ → ℕ) (o : On (shapeOf (v .image)) (v .image))
+    (r : Each (InRange (shapeOf (v .image))) xs) (h : Deal (v .image) xs c size k m unit) (b : c < shapeOf (v .image) .c) (solid : Solid e 0 xs)
     (link : linkLandsOn e c 0 xs ≡ true) where
   abbrev s : List ℕ
   s = v .image
@@ -50,40 +48,27 @@ module _ {A : Type 0} (v : Volume A) (e : Event A) (xs : List Step) (c k m : ℕ
   map-below : m < g .m
   map-below = freeMap-below s m (h .map-free)
 
-  no-unit : isUnit g X ≡ false
-  no-unit = absent-no-unit g (on-limits o)
-
-  map-words : wordsOf g (t .image) (linkOf (t .image) c) ≡ map unit (below (mapWords g))
-  unfolding wordsOf
-  map-words =
-      ap (wordsOf g (t .image)) linked
-      ∙ map-below-ext (λ j. wordAt (t .image) (mapWordPlace g m j)) unit (mapWords g)
-      (λ j p. set-word e g m unit j p 0 xs v o r (h .stores) solid (h .has-word j p))
-
-  -- the new map holds the units of the pieces, then X
-  form : Form (isUnit g) k (map unit (below (mapWords g)))
-  form = record {
+  new-map : NewMap g (t .image) c m size k unit
+  new-map = record {
+    on = on;
+    link = linked;
+    low = map-below;
+    word = λ j p. set-word e g m (afterHead (head g) size unit) j p 0 xs v o r (h .stores) solid (h .has-word j p);
     some = h .some;
-    high = omega (arith, h .fits, length-map-from unit 0 (mapWords g));
-    units = λ j p.
-        ap (isUnit g) (getD-map-from unit 0 (mapWords g) j 0 (omega (arith, h .fits)) ∙ ap unit (omega arith))
-        ∙ lt-ltb (unit j) (g .n) (freeUnit-below s (unit j) (h .unit-free j p));
-    rest = λ j p q.
-        getD-map-from unit 0 (mapWords g) j 0 (omega (arith, length-map-from unit 0 (mapWords g))) ∙ ap unit (omega arith) ∙ h .unit-past j p;
+    fits = h .fits;
+    sized = h .sized;
+    here = λ j p. below-unit g (unit j) (freeUnit-below s (unit j) (h .unit-free j p));
+    past = h .unit-past;
   }
 
-  mapped-now : mapped (t .image) c ≡ true
-  mapped-now =
-      not-of-false (eqb (linkOf (t .image) c) X)
-      (ne-eqb (linkOf (t .image) c) X (λ q. omega (arith, linked, map-below, on-limits o .m-high, on-limits o .c-high)))
-
   pub units-now : unitsOf (t .image) c ≡ map unit (below k)
-  units-now =
-      units-in on c
-      ∙ cond-true (mapped (t .image) c) (leading (isUnit g) (wordsOf g (t .image) (linkOf (t .image) c))) [] mapped-now
-      ∙ ap (leading (isUnit g)) map-words
-      ∙ form-leading (isUnit g) k (map unit (below (mapWords g))) no-unit form
-      ∙ take-map-from unit 0 k (mapWords g) (h .fits)
+  units-now = new-units g (t .image) c m size k unit new-map
+
+  pub size-now : storedSize (t .image) c ≡ keptSize g size k
+  size-now =
+      stored-mapped g (t .image) c (on .shape) (new-mapped g (t .image) c m size k unit new-map)
+      ∙ kept-same g (getD (wordsOf g (t .image) (linkOf (t .image) c)) 0 0) size (length (unitsOf (t .image) c)) k
+      (ap length units-now ∙ length-map-from unit 0 k) (new-size g (t .image) c m size k unit new-map)
 
   -- a unit that the chunk now holds is one of the plan's, and was free
   was-free : (j u : ℕ) → j < g .c → member u (unitsOf (t .image) c) ≡ true → member u (unitsOf s j) ≡ true → ⊥
@@ -97,7 +82,7 @@ module _ {A : Type 0} (v : Volume A) (e : Event A) (xs : List Step) (c k m : ℕ
   pub written : Renewed g s (t .image) c
   written = record {
     bound = subst (λ (l : ℕ). l < g .m) (sym linked) map-below;
-    formed = ap (wellFormed (isUnit g)) map-words ∙ well-formed (isUnit g) k (map unit (below (mapWords g))) no-unit form;
+    formed = new-form g (t .image) c m size k unit new-map;
     single = ap distinct units-now ∙ distinct-map-from unit 0 k (λ i j p q y z w. h .unit-one i j (omega arith) (omega arith) w);
     free-map = λ j p q. freeMap-unnamed s m (h .map-free) j p (q ∙ linked);
     free-units = was-free;

@@ -13,12 +13,13 @@ use Rattle.layout.specs.declared.Shape.{Shape}
 use Rattle.layout.specs.Layout.{X, linkOf}
 use Rattle.image.specs.declared.Verdict.the-variants.{Passed}
 use Rattle.image.specs.Soundness.{unitsOf, Sound}
+use Rattle.image.specs.Stored.{keptSize, storedSize}
 use Rattle.image.specs.Free.{freeUnit, freeMap, freeUnits, freeMaps}
 use Rattle.image.specs.Loading.{unitSetWords, mapSetWords, loaded}
 use Rattle.steps.specs.declared.Step.{Step}
 use Rattle.steps.specs.declared.Request.{Request}
 use Rattle.steps.specs.declared.Request.the-variants.{Write, Discard}
-use Rattle.steps.specs.Steps.{stepBytes, stepsOf, wholeSteps, chunkOf, needOf, encodeAll}
+use Rattle.steps.specs.Steps.{stepBytes, stepsOf, wholeSteps, chunkOf, sizeOf, needOf, encodeAll}
 use Rattle.rules.specs.declared.Checked.the-variants.{Accepted}
 use Rattle.rules.specs.Rules.{planMap, unitOf, checked}
 use Rattle.rules.specs.Reading.{GoodRequest}
@@ -26,16 +27,17 @@ use Rattle.planner.specs.declared.Planned.the-variants.{Steps}
 use Rattle.planner.specs.Planner.{planOf, planAnswer, planOut}
 use Rattle.carry.specs.Carry.{carryImage}
 
--- In the sound image s, of shape g, chunk c got the entry `link` and the units us, and nothing else became of it: t is the image then.
-pub record LoadsBack (g : Shape) (s : List ℕ) (c link : ℕ) (us : List ℕ) (t : List ℕ) : Type 0 where
-  -- It loads, with the same P, C, M and N.
+-- In the sound image s, of shape g, chunk c got the entry `link`, the stored size `size` and the units us, and nothing else became of it: t is the image then.
+pub record LoadsBack (g : Shape) (s : List ℕ) (c link size : ℕ) (us : List ℕ) (t : List ℕ) : Type 0 where
+  -- It loads, with the same edition, P, C, M and N.
   pub sound : Sound g t
   pub loads : loaded t ≡ record { verdict = Passed; shape = g; units = bitSet (freeUnit t) unitSetWords; maps = bitSet (freeMap t) mapSetWords }
-  -- the chunk's map and its units, in map order
+  -- the chunk's map, its stored size, and its units, in map order
   pub entry : linkOf t c ≡ link
+  pub stored : storedSize t c ≡ size
   pub units : unitsOf t c ≡ us
   -- Every other chunk is as it was.
-  pub others : (i : ℕ) → i < g .c → i ≢ c → (linkOf t i ≡ linkOf s i) × (unitsOf t i ≡ unitsOf s i)
+  pub others : (i : ℕ) → i < g .c → i ≢ c → (linkOf t i ≡ linkOf s i) × (storedSize t i ≡ storedSize s i) × (unitsOf t i ≡ unitsOf s i)
   -- "after it unit 2 and map 1 are free": free is what was free or the chunk's, less what the chunk has now.
   pub free-units : (u : ℕ) → freeUnit t u ≡ ((freeUnit s u || member u (unitsOf s c)) && not (member u us))
   pub free-maps : (k : ℕ) → k < g .m → freeMap t k ≡ ((freeMap s k || eqb k (linkOf s c)) && not (eqb k link))
@@ -47,6 +49,10 @@ abbrev pub newLink : Request → List Step → ℕ
 newLink (Write i size) xs = planMap xs
 newLink (Discard i) xs = X
 
+-- the size: the request's in edition 2, k·4,096 in edition 1; 0 for a discard
+abbrev pub newSize : Shape → Request → ℕ
+newSize g r = keptSize g (sizeOf r) (needOf r)
+
 -- the units: those of pieces 0 to k-1, in that order; none for a discard
 abbrev pub newUnits : Request → List Step → List ℕ
 newUnits r xs = map (λ j. unitOf j xs) (below (needOf r))
@@ -55,7 +61,7 @@ newUnits r xs = map (λ j. unitOf j xs) (below (needOf r))
 abbrev pub PlansLoadBack : Type 0
 PlansLoadBack =
     (g : Shape) (s : List ℕ) (r : Request) (plan : List ℕ) → Sound g s → checked s r plan ≡ Accepted
-    → LoadsBack g s (chunkOf r) (newLink r (stepsOf plan)) (newUnits r (stepsOf plan)) (carryImage s r plan (wholeSteps plan))
+    → LoadsBack g s (chunkOf r) (newLink r (stepsOf plan)) (newSize g r) (newUnits r (stepsOf plan)) (carryImage s r plan (wholeSteps plan))
 
 -- ---- the planner's own
 
@@ -72,10 +78,10 @@ ownUnits s r = take (needOf r) (freeUnits s)
 abbrev pub OwnLoadsBack : Type 0
 OwnLoadsBack =
     (g : Shape) (s : List ℕ) (r : Request) → Sound g s → GoodRequest g r → needOf r ≤ length (freeUnits s)
-    → LoadsBack g s (chunkOf r) (ownLink s r) (ownUnits s r) (carryImage s r (encodeAll (planOf s r)) (wholeSteps (encodeAll (planOf s r))))
+    → LoadsBack g s (chunkOf r) (ownLink s r) (newSize g r) (ownUnits s r) (carryImage s r (encodeAll (planOf s r)) (wholeSteps (encodeAll (planOf s r))))
 
 -- The same by the calls: where the planner answers n steps, carrying out those n, as they stand in the lent output.
 abbrev pub WrittenLoadsBack : Type 0
 WrittenLoadsBack =
     (g : Shape) (s : List ℕ) (r : Request) (out : List ℕ) (n : ℕ) → Sound g s → planAnswer s r (length out) ≡ Steps n
-    → LoadsBack g s (chunkOf r) (ownLink s r) (ownUnits s r) (carryImage s r (take (stepBytes * n) (planOut s r out)) n)
+    → LoadsBack g s (chunkOf r) (ownLink s r) (newSize g r) (ownUnits s r) (carryImage s r (take (stepBytes * n) (planOut s r out)) n)
