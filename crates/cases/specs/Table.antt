@@ -1,5 +1,5 @@
 -- Document 01's worked cases of the 224-byte volume, 'The 64 KB volume worked through', and its 'How a map comes to lie', as one table. Each row asks the
--- definitions that the promises cite.
+-- definitions that the promises cite. The questions are asked of a volume, so that request 4's table (Second.antt) asks them too.
 use Prim.Native.Nat.{ℕ, _+_, _*_, _%_}
 use mathlib.Core.Path.{_≡_}
 use mathlib.Core.Bool.{Bool, true, false}
@@ -8,14 +8,16 @@ use lib.Dec.{eqb}
 use lib.ListN.{length, replicate}
 use Rattle.search.specs.Search.{below, from}
 use Rattle.bitset.specs.Bits.{members}
-use Rattle.layout.specs.declared.Shape.{Shape}
 use Rattle.layout.specs.declared.Refusal.{Refusal}
 use Rattle.layout.specs.declared.Refusal.the-variants.{Shared, Size}
-use Rattle.layout.specs.Layout.{putWord, shapeOf}
+use Rattle.layout.specs.Layout.{edition1, mapWords, putWord, shapeOf}
 use Rattle.layout.specs.Format.{formatImage}
 use Rattle.layout.specs.Refusals.{refusalNumber, refusalPlace, refusalSecond}
-use Rattle.image.specs.declared.Verdict.the-variants.{Refused as Unsound}
+use Rattle.image.specs.declared.Verdict.{Verdict}
+use Rattle.image.specs.declared.Verdict.the-variants.{Passed, Refused as Unsound}
 use Rattle.image.specs.Soundness.{unitsOf}
+use Rattle.image.specs.Stored.{storedSize}
+use Rattle.image.specs.Verdicts.{firstVerdict}
 use Rattle.image.specs.Loading.{loaded}
 use Rattle.access.specs.declared.Piece.{Piece}
 use Rattle.access.specs.declared.Split.the-variants.{Pieces}
@@ -38,7 +40,7 @@ use Rattle.durable.specs.Events.{Volume, Event, holds, after}
 
 -- "C=4, P=4, M=5, N=20", formatted in a buffer of 224 bytes
 abbrev pub volume : List ℕ
-volume = formatImage (record { p = 4; c = 4; m = 5; n = 20 }) (replicate 224 0)
+volume = formatImage (edition1 4 4 5 20) (replicate 224 0)
 
 -- the planner's plan for a request
 abbrev pub planFor : List ℕ → Request → List ℕ
@@ -53,24 +55,23 @@ unfoldable pub done : List ℕ → List Request → List ℕ
 done s [] = s
 done s (r ∷ rs) = done (partly s r (length (planOf s r))) rs
 
-abbrev pub left : List Request → List ℕ
-left rs = done volume rs
-
 -- the planner's plan for a request cut at point n; `landed` says which steps since the last FENCE passed landed
 abbrev pub cutAt : List ℕ → Request → ℕ → (ℕ → Bool) → Event ℕ
 cutAt s r n landed = record { request = r; payload = λ j. 100 + j; plan = planFor s r; count = n; landed = landed; left = λ i. 200 + i }
 
--- ---- the questions
+-- ---- the questions, of a fresh volume
 
 pub data Case : Type 0 where
   -- after these requests load gives these units and maps as free
   free : List Request → List ℕ → List ℕ → Case
   -- after these requests the planner answers a further one with these steps
   plans : List Request → Request → List Step → Case
-  -- on the fresh volume the planner and the checker refuse the request, with this number
+  -- the planner and the checker refuse the request, with this number
   refuses : Request → Refusal → ℕ → Case
   -- a write of this size takes so many units
   takes : ℕ → ℕ → Case
+  -- after these requests a chunk has this stored size
+  stores : List Request → ℕ → ℕ → Case
   -- after these requests a chunk shows these units
   shows : List Request → ℕ → List ℕ → Case
   -- after these requests and the planner's plan for a further one, cut at a point, a chunk shows these units and holds their contents: whichever steps
@@ -83,6 +84,8 @@ pub data Case : Type 0 where
   unsound : List Request → List (ℕ × ℕ) → Refusal → ℕ → ℕ → ℕ → Case
   -- after these requests the checker's number and place for these steps and a further one: 0 and 0 where it accepts them, 11 and the lowest broken rule
   checks : List Request → Request → List Step → ℕ → ℕ → Case
+  -- after these requests edition 1 code gives this number on the image, 0 where it passes
+  foreign : List Request → ℕ → Case
 
 -- the image with words stored
 abbrev pub putWords : List ℕ → List (ℕ × ℕ) → List ℕ
@@ -94,32 +97,45 @@ abbrev pub numbersOf : Checked → ℕ × ℕ
 numbersOf Accepted = (0, 0)
 numbersOf (Denied x) = (refusalNumber x, refusalPlace x)
 
--- the longest plan of the planner: "at most 35"
+-- the longest plan of the planner: "at most 35", and in edition 2 "k+P+4 steps"
 abbrev pub planRoom : ℕ
-planRoom = stepBytes * 35
+planRoom = stepBytes * 36
 
--- what chunk i shows after a cut, and what it holds, where each unit's content was its own number
-abbrev pub ShowsAfter : List Request → Request → ℕ → (ℕ → Bool) → ℕ → List ℕ → Type 0
-ShowsAfter rs r n landed i us =
-    let v : Volume ℕ = after (record { image = left rs; content = λ u. u }) (cutAt (left rs) r n landed) in (unitsOf (v .image) i ≡ us) × (holds v i ≡ us)
+-- the number of a verdict: 0 where it passes
+abbrev pub verdictNumber : Verdict → ℕ
+verdictNumber Passed = 0
+verdictNumber (Unsound x) = refusalNumber x
 
-abbrev pub Right : Case → Type 0
-Right (free rs us ks) = (members (loaded (left rs) .units) ≡ us) × (members (loaded (left rs) .maps) ≡ ks)
-Right (plans rs r xs) = (planAnswer (left rs) r (stepBytes * length xs) ≡ Steps (length xs)) × (planOf (left rs) r ≡ xs)
-Right (refuses r x k) = (planAnswer volume r planRoom ≡ Unplanned x) × (checked volume r [] ≡ Denied x) × (refusalNumber x ≡ k) × (refusalPlace x ≡ 0)
-Right (takes size k) = planAnswer volume (Write 0 size) planRoom ≡ Steps (k + 4 + 3)
-Right (shows rs i us) = unitsOf (left rs) i ≡ us
-Right (cuts rs r n i us) = (landed : ℕ → Bool) → ShowsAfter rs r n landed i us
-Right (cutsSo rs r n landed i us) = ShowsAfter rs r n landed i us
-Right (splits rs offset span xs) =
-    (splitAnswer (left rs) offset span (pieceBytes * length xs) ≡ Pieces (length xs)) × (piecesOf (shapeOf (left rs)) offset span ≡ xs)
-Right (unsound rs ws x k i j) =
-    (loaded (putWords (left rs) ws) .verdict ≡ Unsound x) × (refusalNumber x ≡ k) × (refusalPlace x ≡ i) × (refusalSecond x ≡ j)
-Right (checks rs r xs k place) = numbersOf (checked (left rs) r (encodeAll xs)) ≡ (k, place)
+module _ (start : List ℕ) where
+  -- what some requests leave
+  abbrev pub left : List Request → List ℕ
+  left rs = done start rs
 
-abbrev pub AllRight : List Case → Type 0
-AllRight [] = Unit {0}
-AllRight (x ∷ xs) = Right x × AllRight xs
+  -- what chunk i shows after a cut, and what it holds, where each unit's content was its own number
+  abbrev pub ShowsAfter : List Request → Request → ℕ → (ℕ → Bool) → ℕ → List ℕ → Type 0
+  ShowsAfter rs r n landed i us =
+      let v : Volume ℕ = after (record { image = left rs; content = λ u. u }) (cutAt (left rs) r n landed) in
+      (unitsOf (v .image) i ≡ us) × (holds v i ≡ us)
+
+  abbrev pub Right : Case → Type 0
+  Right (free rs us ks) = (members (loaded (left rs) .units) ≡ us) × (members (loaded (left rs) .maps) ≡ ks)
+  Right (plans rs r xs) = (planAnswer (left rs) r (stepBytes * length xs) ≡ Steps (length xs)) × (planOf (left rs) r ≡ xs)
+  Right (refuses r x k) = (planAnswer start r planRoom ≡ Unplanned x) × (checked start r [] ≡ Denied x) × (refusalNumber x ≡ k) × (refusalPlace x ≡ 0)
+  Right (takes size k) = planAnswer start (Write 0 size) planRoom ≡ Steps (k + mapWords (shapeOf start) + 3)
+  Right (stores rs i size) = storedSize (left rs) i ≡ size
+  Right (shows rs i us) = unitsOf (left rs) i ≡ us
+  Right (cuts rs r n i us) = (landed : ℕ → Bool) → ShowsAfter rs r n landed i us
+  Right (cutsSo rs r n landed i us) = ShowsAfter rs r n landed i us
+  Right (splits rs offset span xs) =
+      (splitAnswer (left rs) offset span (pieceBytes * length xs) ≡ Pieces (length xs)) × (piecesOf (shapeOf (left rs)) offset span ≡ xs)
+  Right (unsound rs ws x k i j) =
+      (loaded (putWords (left rs) ws) .verdict ≡ Unsound x) × (refusalNumber x ≡ k) × (refusalPlace x ≡ i) × (refusalSecond x ≡ j)
+  Right (checks rs r xs k place) = numbersOf (checked (left rs) r (encodeAll xs)) ≡ (k, place)
+  Right (foreign rs k) = verdictNumber (firstVerdict (left rs)) ≡ k
+
+  abbrev pub AllRight : List Case → Type 0
+  AllRight [] = Unit {0}
+  AllRight (x ∷ xs) = Right x × AllRight xs
 
 -- ---- the table
 
