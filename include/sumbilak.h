@@ -3,7 +3,11 @@
  * Build the archive with `rt staticlib sumbilak` and link target/staticlib/libsumbilak.a. It needs memcpy and memset and nothing else: no heap, no
  * locks, no global state, no input or output. Each call works on the bytes that it is lent and ends.
  *
- * An image is the metadata of one volume: C logical entries, M chunk maps of P words, and a 32-byte trailer; at most 38,944 bytes. A unit is 4,096 bytes.
+ * An image is the metadata of one volume: C logical entries, M chunk maps, and a trailer. A unit is 4,096 bytes. There are two editions. Every call but
+ * convert takes either:
+ *    edition 1   maps of P words, the units; a 32-byte trailer; at most 38,944 bytes
+ *    edition 2   maps of P + 1 words, the compressed size and then the units; a 40-byte trailer; at most 41,256 bytes
+ * The last 32 bytes are tried as edition 1's trailer first, then the last 40 as edition 2's.
  *
  * Slices. A slice is a pointer and a number of elements. (NULL, 0) is an empty slice; otherwise the pointer leads to that many elements, aligned to
  * their type. A slice that is written overlaps no other argument. These are the only things a caller has to see to: any bytes and any numbers get an
@@ -13,22 +17,24 @@
  *
  *    no.  name        when                                                          place
  *     1   SHORT       image under 32 bytes                                          0
- *     2   FOREIGN     first four trailer bytes or version wrong                     0
- *     3   GEOMETRY    a limit broken, or a distance or length that disagrees        0
+ *     2   FOREIGN     no trailer's first four bytes and version                     0
+ *     3   GEOMETRY    a limit broken, or a distance or length that disagrees, or    0
+ *                     edition 2's two last numbers not 0
  *     4   BAD LINK    entry neither absent nor below M                              lowest such chunk
- *     5   BAD MAP     a named map of the wrong form                                 lowest such chunk
+ *     5   BAD MAP     a named map of the wrong form; in edition 2 also a size       lowest such chunk
+ *                     that does not take just the units that the map names
  *     6   SHARED      a map or unit claimed twice                                   the two chunks: place and second
  *     7   RANGE       chunk not below C; byte range empty, off the 4,096 grain,     0
  *                     past the volume's end or (access) across chunks; step count
  *                     above the plan's whole steps
  *     8   SIZE        compressed size 0 or above P * 4,096                          0
  *     9   NO ROOM     fewer units free than the write needs                         free units
- *    10   SMALL       lent output too short                                         bytes needed
+ *    10   SMALL       lent output too short (convert: not just long enough)         bytes needed
  *    11   BAD PLAN    a plan rule broken                                            lowest rule broken, 1 to 5
  *    12   BAD ALARM   fraction not a number, below 0 or above 1                     0
  *
- * Every call but format and repair first applies 1 to 6 to its image; repair applies 1 to 3. The lowest number wins. A refusal leaves every lent byte as it
- * was, and value, extent and all that a report has are 0. An answer writes what its comment says and no other byte.
+ * Every call but the two formats and repair first applies 1 to 6 to its image; repair applies 1 to 3. The lowest number wins. A refusal leaves every lent byte
+ * as it was, and value, extent and all that a report or a shape has are 0. An answer writes what its comment says and no other byte.
  */
 #ifndef SUMBILAK_H
 #define SUMBILAK_H
@@ -43,13 +49,15 @@ extern "C" {
 
 /* Sizes that a caller may want for its buffers. */
 enum {
-    SUMBILAK_UNIT_BYTES = 4096,       /* a backing unit */
-    SUMBILAK_MAX_IMAGE_BYTES = 38944, /* the largest image: P = 16, C = 256, M = 288 */
-    SUMBILAK_LOAD_WORDS = 81,         /* what sumbilak_load writes */
-    SUMBILAK_STEP_BYTES = 16,         /* a step of a plan */
-    SUMBILAK_MAX_PLAN_STEPS = 64,     /* the longest plan that the checker accepts */
-    SUMBILAK_MAX_WRITE_STEPS = 35,    /* the longest that the planner writes: P = 16, stored raw */
-    SUMBILAK_PIECE_BYTES = 12         /* a piece of a split */
+    SUMBILAK_UNIT_BYTES = 4096,        /* a backing unit */
+    SUMBILAK_MAX_IMAGE_BYTES = 38944,  /* the largest image of edition 1: P = 16, C = 256, M = 288 */
+    SUMBILAK_MAX_IMAGE2_BYTES = 41256, /* of edition 2: an image of either edition fits */
+    SUMBILAK_LOAD_WORDS = 81,          /* what sumbilak_load writes */
+    SUMBILAK_STEP_BYTES = 16,          /* a step of a plan */
+    SUMBILAK_MAX_PLAN_STEPS = 64,      /* the longest plan that the checker accepts */
+    SUMBILAK_MAX_WRITE_STEPS = 35,     /* the longest that the planner writes in edition 1: P = 16, stored raw */
+    SUMBILAK_MAX_WRITE2_STEPS = 36,    /* in edition 2 */
+    SUMBILAK_PIECE_BYTES = 12          /* a piece of a split */
 };
 
 /* The kinds of step, "absent" in a step's value, and what sumbilak_access answers. */
@@ -59,8 +67,9 @@ enum { SUMBILAK_DATA = 1, SUMBILAK_MAP = 2, SUMBILAK_LINK = 3, SUMBILAK_FENCE = 
 
 enum { SUMBILAK_READS_NOTHING = 0, SUMBILAK_READS_ZEROS = 1, SUMBILAK_READS_CHUNK = 2 };
 
-/* The bytes of an image with p units in a chunk, c chunks and m chunk maps. */
+/* The bytes of an image with p units in a chunk, c chunks and m chunk maps, in edition 1 and in edition 2. */
 #define SUMBILAK_IMAGE_BYTES(p, c, m) (8 * (c) + 8 * (m) * (p) + 32)
+#define SUMBILAK_IMAGE2_BYTES(p, c, m) (8 * (c) + 8 * (m) * ((p) + 1) + 40)
 
 enum {
     SUMBILAK_ANSWERED = 0,
@@ -96,9 +105,25 @@ typedef struct {
     double saved_ratio; /* saved / (mapped * P); 0.0 when nothing is mapped */
 } sumbilak_report_answer;
 
-/* Writes the image of a fresh volume: p units in a chunk (2 to 16), c chunks (1 to 256), m chunk maps (c+1 to c+32), n backing units (p to p*m). Any
+typedef struct {
+    uint64_t number, place, second;
+    uint64_t edition; /* 1 or 2 */
+    uint64_t p;       /* units in a chunk */
+    uint64_t c;       /* chunks */
+    uint64_t m;       /* chunk maps */
+    uint64_t n;       /* backing units */
+    uint64_t r;       /* 0 */
+} sumbilak_shape_answer;
+
+/* Writes the image of a fresh volume of edition 1: p units in a chunk (2 to 16), c chunks (1 to 256), m chunk maps (c+1 to c+32), n backing units (p to p*m). Any
  * length but SUMBILAK_IMAGE_BYTES(p, c, m) is refused too. With n at least (c+1)*p a write never finds too little room. Refuses with 3 only. */
 sumbilak_answer sumbilak_format(uint8_t *image, size_t len, uint64_t p, uint64_t c, uint64_t m, uint64_t n);
+
+/* The same in edition 2, with the length SUMBILAK_IMAGE2_BYTES(p, c, m). r must be 0. Refuses with 3 only. */
+sumbilak_answer sumbilak_format2(uint8_t *image, size_t len, uint64_t p, uint64_t c, uint64_t m, uint64_t n, uint64_t r);
+
+/* Judges an image and answers its edition and geometry. Refuses with 1 to 6. */
+sumbilak_shape_answer sumbilak_shape(const uint8_t *image, size_t len);
 
 /* Judges an image and rebuilds its free sets. Writes P, C, M, N, then 72 words with a bit for each free unit, then 5 words with a bit for each free map
  * (number u is bit u % 64 of word u / 64). Refuses with 1 to 6, and 10 for fewer than 81 words (place 648). */
@@ -116,8 +141,13 @@ sumbilak_answer sumbilak_access(const uint8_t *image, size_t len, bool write, ui
  * unmapped chunk. Refuses with 1 to 7. */
 sumbilak_answer sumbilak_held(const uint8_t *image, size_t len, uint64_t chunk);
 
+/* How many bytes a chunk's compressed data has. value: in edition 2 the size that its map keeps, in edition 1 4,096 for each of its units; 0 for an
+ * unmapped chunk. Refuses with 1 to 7. */
+sumbilak_answer sumbilak_stored_size(const uint8_t *image, size_t len, uint64_t chunk);
+
 /* Plans a write of `size` compressed bytes to a chunk, on the lowest free units and the lowest free map: size / 4,096, rounded up, units. A chunk on all P
- * units is stored raw. The image keeps the number of units and not the size: a payload that needs its length carries it. value: steps, 16 bytes each:
+ * units is stored raw. Edition 1 keeps the number of units and not the size: a payload that needs its length carries it. Edition 2 keeps the size, as word 0
+ * of the map, before the units. value: steps, 16 bytes each:
  *    1 DATA  unit, piece, 0     the caller writes piece `piece` of the payload to that unit
  *    2 MAP   map, word, value   a word of the chunk map (4294967295: absent)
  *    3 LINK  chunk, 0, value    the chunk's entry (4294967295: absent)
@@ -146,6 +176,11 @@ sumbilak_answer sumbilak_carry_discard(uint8_t *image, size_t len, uint64_t chun
  * enough. The result is sound; a sound image is not changed. What is proved of power failures holds again once the image is back on the disk, whole and
  * flushed. Refuses with 1 to 3, and 10. */
 sumbilak_answer sumbilak_repair(uint8_t *image, size_t len, uint8_t *out, size_t out_len);
+
+/* Writes an image of edition 1 as one of edition 2 into a second buffer of just SUMBILAK_IMAGE2_BYTES(p, c, m) bytes. Every chunk keeps its map's number and
+ * its units, in order; the size of a map that is named is 4,096 for each of its units; a map that no chunk names is absent throughout. value: bytes written.
+ * Refuses with 1; with 2 whatever is not read as edition 1, an image of edition 2 too; with 3 to 6; and with 10 for a buffer of any other length. */
+sumbilak_answer sumbilak_convert(const uint8_t *image, size_t len, uint8_t *out, size_t out_len);
 
 /* Counts of the volume and two ratios, each one rounded division. Refuses with 1 to 6. */
 sumbilak_report_answer sumbilak_report(const uint8_t *image, size_t len);

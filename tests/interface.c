@@ -9,9 +9,11 @@
 
 _Static_assert(sizeof(sumbilak_answer) == 40, "five u64");
 _Static_assert(sizeof(sumbilak_report_answer) == 72, "seven u64 and two doubles");
-_Static_assert(SUMBILAK_IMAGE_BYTES(16, 256, 288) == SUMBILAK_MAX_IMAGE_BYTES, "the largest image");
+_Static_assert(sizeof(sumbilak_shape_answer) == 72, "nine u64");
+_Static_assert(SUMBILAK_IMAGE_BYTES(16, 256, 288) == SUMBILAK_MAX_IMAGE_BYTES, "the largest image of edition 1");
+_Static_assert(SUMBILAK_IMAGE2_BYTES(16, 256, 288) == SUMBILAK_MAX_IMAGE2_BYTES, "and of edition 2");
 
-enum { P = 4, C = 4, M = 5, N = 20, IMAGE = SUMBILAK_IMAGE_BYTES(P, C, M) };
+enum { P = 4, C = 4, M = 5, N = 20, IMAGE = SUMBILAK_IMAGE_BYTES(P, C, M), IMAGE2 = SUMBILAK_IMAGE2_BYTES(P, C, M) };
 
 static int asked, failed;
 
@@ -24,25 +26,35 @@ static void is(const char *what, uint64_t found, uint64_t wanted)
     printf("%s: %llu, not %llu\n", what, (unsigned long long)found, (unsigned long long)wanted);
 }
 
-/* Plans a write on the image and carries the first `left` steps fewer than all of it out. */
-static uint64_t write_chunk(uint8_t *image, uint64_t chunk, uint64_t size, uint64_t left)
+/* Plans a write on an image of `bytes` bytes and carries the first `left` steps fewer than all of it out. */
+static uint64_t write_in(uint8_t *image, size_t bytes, uint64_t chunk, uint64_t size, uint64_t left)
 {
-    uint8_t plan[SUMBILAK_MAX_WRITE_STEPS * SUMBILAK_STEP_BYTES];
-    sumbilak_answer made = sumbilak_plan_write(image, IMAGE, chunk, size, plan, sizeof plan);
+    uint8_t plan[SUMBILAK_MAX_WRITE2_STEPS * SUMBILAK_STEP_BYTES];
+    sumbilak_answer made = sumbilak_plan_write(image, bytes, chunk, size, plan, sizeof plan);
     is("planned", made.number, 0);
-    is("own plan passes", sumbilak_check_write(image, IMAGE, chunk, size, plan, made.value * 16).number, 0);
-    is("carried", sumbilak_carry_write(image, IMAGE, chunk, size, plan, made.value * 16, made.value - left).number, 0);
+    is("own plan passes", sumbilak_check_write(image, bytes, chunk, size, plan, made.value * 16).number, 0);
+    is("carried", sumbilak_carry_write(image, bytes, chunk, size, plan, made.value * 16, made.value - left).number, 0);
     return made.value;
 }
 
-/* The unit words of a chunk, as bytes of a number: units 3, 4 are 0x0304. */
-static uint64_t units(const uint8_t *image, uint64_t chunk)
+static uint64_t write_chunk(uint8_t *image, uint64_t chunk, uint64_t size, uint64_t left)
 {
-    sumbilak_answer held = sumbilak_held(image, IMAGE, chunk);
+    return write_in(image, IMAGE, chunk, size, left);
+}
+
+/* The unit words of a chunk, as bytes of a number: units 3, 4 are 0x0304. */
+static uint64_t units_in(const uint8_t *image, size_t bytes, uint64_t chunk)
+{
+    sumbilak_answer held = sumbilak_held(image, bytes, chunk);
     uint64_t all = 0;
     for (uint64_t i = 0; i < held.extent; i += 8)
         all = all << 8 | image[held.value + i];
     return all;
+}
+
+static uint64_t units(const uint8_t *image, uint64_t chunk)
+{
+    return units_in(image, IMAGE, chunk);
 }
 
 static uint64_t pieces(const uint8_t *image, uint64_t offset, uint64_t length)
@@ -170,9 +182,78 @@ static void repairs(void)
     is("a foreign tag", sumbilak_repair(image, IMAGE, list, 16).number, 2);
 }
 
+/* The same volume in edition 2, where a map begins with the size: written, damaged, and converted from edition 1. */
+static void edition_2(void)
+{
+    uint8_t image[IMAGE2], other[IMAGE2], old[IMAGE], paint[IMAGE2];
+    static const uint8_t trailer[40] = {0x52, 0x4D, 0x41, 0x50, 2, 0, 4, 0, 4, 0, 0, 0, 5, 0, 0, 0, 0x14, 0, 0, 0,
+                                        0xE8, 0,    0,    0,    0xC8, 0, 0, 0, 0x10, 1, 0, 0, 0, 0, 0, 0, 0,    0, 0, 0};
+    is("272 bytes", IMAGE2, 272);
+    is("format", sumbilak_format2(image, IMAGE2, P, C, M, N, 0).number, 0);
+    is("trailer", (uint64_t)memcmp(image + 232, trailer, 40), 0);
+    memcpy(other, image, IMAGE2);
+    is("no unit is reserved yet", sumbilak_format2(image, IMAGE2, P, C, M, N, 1).number, 3);
+    is("21 units", sumbilak_format2(image, IMAGE2, P, C, M, 21, 0).number, 3);
+    is("edition 1's length", sumbilak_format2(image, IMAGE, P, C, M, N, 0).number, 3);
+    is("a refusal changes nothing", (uint64_t)memcmp(image, other, IMAGE2), 0);
+    sumbilak_shape_answer g = sumbilak_shape(image, IMAGE2);
+    is("number 0", g.number, 0);
+    is("edition 2", g.edition, 2);
+    is("P", g.p, P);
+    is("C", g.c, C);
+    is("M", g.m, M);
+    is("N", g.n, N);
+    is("R", g.r, 0);
+
+    is("ten steps", write_in(image, IMAGE2, 2, 6144, 0), 10);
+    is("chunk 2 on units 0, 1", units_in(image, IMAGE2, 2), 0x0001);
+    is("its size", sumbilak_stored_size(image, IMAGE2, 2).value, 6144);
+    is("no extent", sumbilak_stored_size(image, IMAGE2, 2).extent, 0);
+    is("chunk 1 is unmapped", sumbilak_stored_size(image, IMAGE2, 1).value, 0);
+    is("chunk 4 is none", sumbilak_stored_size(image, IMAGE2, 4).number, 7);
+    write_in(image, IMAGE2, 0, 3072, 0);
+    write_in(image, IMAGE2, 0, 5120, 2);
+    is("a cut before LINK keeps the size", sumbilak_stored_size(image, IMAGE2, 0).value, 3072);
+    write_in(image, IMAGE2, 0, 5120, 0);
+    is("the new size", sumbilak_stored_size(image, IMAGE2, 0).value, 5120);
+
+    memcpy(other, image, IMAGE2);
+    memset(other + 32, 0, 8); /* word 0 of map 0, which chunk 2 names */
+    is("a size of no unit", sumbilak_report(other, IMAGE2).number, 5);
+    is("of chunk 2", sumbilak_report(other, IMAGE2).place, 2);
+    uint8_t list[16];
+    is("is unlinked", sumbilak_repair(other, IMAGE2, list, sizeof list).value, 1);
+    is("and was chunk 2's", list[0], 2);
+    memcpy(other, image, IMAGE2);
+    other[IMAGE2 - 1] = 1;
+    is("the last number is 0", sumbilak_shape(other, IMAGE2).number, 3);
+    is("and no shape is answered", sumbilak_shape(other, IMAGE2).edition, 0);
+
+    sumbilak_format(old, IMAGE, P, C, M, N);
+    write_chunk(old, 2, 6144, 0);
+    write_chunk(old, 0, 3072, 0);
+    write_chunk(old, 0, 5120, 0);
+    is("edition 1", sumbilak_shape(old, IMAGE).edition, 1);
+    is("k units", sumbilak_stored_size(old, IMAGE, 2).value, 8192);
+    memset(other, 0xA5, sizeof other);
+    memset(paint, 0xA5, sizeof paint);
+    is("one byte too few", sumbilak_convert(old, IMAGE, other, IMAGE2 - 1).number, 10);
+    is("272 are needed", sumbilak_convert(old, IMAGE, other, IMAGE2 - 1).place, 272);
+    is("edition 2 is not converted", sumbilak_convert(image, IMAGE2, other, IMAGE2).number, 2);
+    is("the buffer stays", (uint64_t)memcmp(other, paint, IMAGE2), 0);
+    is("converted", sumbilak_convert(old, IMAGE, other, IMAGE2).value, 272);
+    is("to edition 2", sumbilak_shape(other, IMAGE2).edition, 2);
+    is("chunk 0 on units 3, 4", units_in(other, IMAGE2, 0), 0x0304);
+    is("with all their bytes", sumbilak_stored_size(other, IMAGE2, 0).value, 8192);
+    memset(paint, 0xFF, sizeof paint);
+    is("the dead map is X throughout", (uint64_t)memcmp(other + 32 + 40, paint, 40), 0);
+    is("it takes the next write", write_in(other, IMAGE2, 1, 4095, 0), 9);
+    is("with its size", sumbilak_stored_size(other, IMAGE2, 1).value, 4095);
+}
+
 static void limits(void)
 {
-    uint8_t *image = malloc(SUMBILAK_MAX_IMAGE_BYTES + 8);
+    uint8_t *image = malloc(SUMBILAK_MAX_IMAGE2_BYTES + 8);
     if (!image)
         exit(1);
     is("256 chunks", sumbilak_format(image, SUMBILAK_IMAGE_BYTES(2, 256, 257), 2, 256, 257, 514).number, 0);
@@ -181,12 +262,20 @@ static void limits(void)
     is("21 units", sumbilak_format(image, IMAGE, P, C, M, 21).number, 3);
     is("the largest", sumbilak_format(image, SUMBILAK_MAX_IMAGE_BYTES, 16, 256, 288, 4608).number, 0);
     is("loads", sumbilak_alarm_count(image, SUMBILAK_MAX_IMAGE_BYTES, 4609).value, 1);
+    is("the largest of edition 2", sumbilak_format2(image, SUMBILAK_MAX_IMAGE2_BYTES, 16, 256, 288, 4608, 0).number, 0);
+    is("loads", sumbilak_alarm_count(image, SUMBILAK_MAX_IMAGE2_BYTES, 4609).value, 1);
+    is("36 steps", write_in(image, SUMBILAK_MAX_IMAGE2_BYTES, 255, 65536, 0), SUMBILAK_MAX_WRITE2_STEPS);
+    is("65,536 bytes", sumbilak_stored_size(image, SUMBILAK_MAX_IMAGE2_BYTES, 255).value, 65536);
     free(image);
 }
 
 static void empty_slices(void)
 {
     is("format", sumbilak_format(NULL, 0, P, C, M, N).number, 3);
+    is("format2", sumbilak_format2(NULL, 0, P, C, M, N, 0).number, 3);
+    is("shape", sumbilak_shape(NULL, 0).number, 1);
+    is("stored_size", sumbilak_stored_size(NULL, 0, 0).number, 1);
+    is("convert", sumbilak_convert(NULL, 0, NULL, 0).number, 1);
     is("load", sumbilak_load(NULL, 0, NULL, 0).number, 1);
     is("split", sumbilak_split(NULL, 0, 0, 4096, NULL, 0).number, 1);
     is("access", sumbilak_access(NULL, 0, false, 0, 4096).number, 1);
@@ -207,6 +296,7 @@ int main(void)
 {
     worked_cases();
     repairs();
+    edition_2();
     limits();
     empty_slices();
     printf("C interface: %d of %d as documents 01 and 02 have them\n", asked - failed, asked);

@@ -6,9 +6,9 @@
 
 #include "sumbilak.h"
 
-enum { STACK = 1 << 16, PAINT = 0xA5, ALLOWED = 8192, P = 16, C = 256, M = 288, N = 4608, IMAGE = SUMBILAK_MAX_IMAGE_BYTES };
+enum { STACK = 1 << 16, PAINT = 0xA5, ALLOWED = 8192, P = 16, C = 256, M = 288, N = 4608, IMAGE = SUMBILAK_MAX_IMAGE_BYTES, IMAGE2 = SUMBILAK_MAX_IMAGE2_BYTES };
 
-static uint8_t stack[STACK], image[IMAGE], clash[IMAGE], plan[SUMBILAK_MAX_WRITE_STEPS * SUMBILAK_STEP_BYTES], out[C * SUMBILAK_PIECE_BYTES];
+static uint8_t stack[STACK], image[IMAGE], clash[IMAGE], image2[IMAGE2], plan[SUMBILAK_MAX_WRITE2_STEPS * SUMBILAK_STEP_BYTES], out[C * SUMBILAK_PIECE_BYTES];
 static uint64_t words[SUMBILAK_LOAD_WORDS];
 static ucontext_t caller, callee;
 
@@ -29,6 +29,13 @@ static void every_call(void)
     sumbilak_report(image, IMAGE);
     sumbilak_alarm_count(image, IMAGE, 1);
     sumbilak_alarm_fraction(image, IMAGE, 0.5);
+    sumbilak_convert(image, IMAGE, image2, IMAGE2);
+    sumbilak_format2(image2, IMAGE2, P, C, M, N, 0);
+    made = sumbilak_plan_write(image2, IMAGE2, 0, P * SUMBILAK_UNIT_BYTES, plan, sizeof plan);
+    sumbilak_check_write(image2, IMAGE2, 0, P * SUMBILAK_UNIT_BYTES, plan, made.value * SUMBILAK_STEP_BYTES);
+    sumbilak_carry_write(image2, IMAGE2, 0, P * SUMBILAK_UNIT_BYTES, plan, made.value * SUMBILAK_STEP_BYTES, made.value);
+    sumbilak_stored_size(image2, IMAGE2, 0);
+    sumbilak_shape(image2, IMAGE2);
     made = sumbilak_plan_discard(image, IMAGE, 0, plan, sizeof plan);
     sumbilak_check_discard(image, IMAGE, 0, plan, made.value * SUMBILAK_STEP_BYTES);
     sumbilak_carry_discard(image, IMAGE, 0, plan, made.value * SUMBILAK_STEP_BYTES, made.value);

@@ -1,9 +1,11 @@
 -- How each answer is numbered for C: "Where an answer is an enum, a definition sets out this paper's number and values for each of its cases."
 use Prim.Native.Nat.{ℕ, _-_}
 use Rattle.layout.specs.declared.Refusal.{Refusal}
+use Rattle.layout.specs.declared.Shape.{Shape}
 use Rattle.layout.specs.declared.Formatted.{Formatted}
 use Rattle.layout.specs.declared.Formatted.the-variants.{Done, Refused as NotFormatted}
 use Rattle.layout.specs.Refusals.{refusalNumber, refusalPlace, refusalSecond}
+use Rattle.image.specs.declared.Loaded.{Loaded}
 use Rattle.image.specs.declared.Verdict.{Verdict}
 use Rattle.image.specs.declared.Verdict.the-variants.{Passed, Refused as Unsound}
 use Rattle.access.specs.declared.Split.{Split}
@@ -13,18 +15,23 @@ use Rattle.access.specs.declared.Access.the-variants.{Nothing, Zeros, Chunk, Re
 use Rattle.access.specs.declared.Status.{Status}
 use Rattle.access.specs.declared.Status.the-variants.{Answered, Refused as NotHeld}
 use Rattle.access.specs.declared.Held.{Held}
+use Rattle.access.specs.declared.Stored.{Stored}
+use Rattle.access.specs.declared.Stored.the-variants.{Size, Refused as NotStored}
 use Rattle.report.specs.declared.Report.{Report}
 use Rattle.report.specs.declared.Reported.{Reported}
 use Rattle.report.specs.declared.Alarm.{Alarm}
 use Rattle.report.specs.declared.Alarm.the-variants.{Sounds, Silent, Refused as NoAlarm}
 use Rattle.repair.specs.declared.Repaired.{Repaired}
 use Rattle.repair.specs.declared.Repaired.the-variants.{Unlinked, Refused as NotRepaired}
+use Rattle.convert.specs.declared.Converted.{Converted}
+use Rattle.convert.specs.declared.Converted.the-variants.{Bytes, Refused as NotConverted}
 use Rattle.planner.specs.declared.Planned.{Planned}
 use Rattle.planner.specs.declared.Planned.the-variants.{Steps, Refused as NotPlanned}
 use Rattle.rules.specs.declared.Checked.{Checked}
 use Rattle.rules.specs.declared.Checked.the-variants.{Accepted, Refused as Denied}
 use Rattle.sumbilak.specs.declared.Answer.{Answer}
 use Rattle.sumbilak.specs.declared.ReportAnswer.{ReportAnswer}
+use Rattle.sumbilak.specs.declared.ShapeAnswer.{ShapeAnswer}
 
 -- an answer: number 0, and its values
 abbrev pub given : ℕ → ℕ → Answer
@@ -56,6 +63,11 @@ abbrev pub repairedAnswer : Repaired → Answer
 repairedAnswer (Unlinked n) = given n 0
 repairedAnswer (NotRepaired r) = refused r
 
+-- convert: the bytes written
+abbrev pub convertedAnswer : Converted → Answer
+convertedAnswer (Bytes n) = given n 0
+convertedAnswer (NotConverted r) = refused r
+
 -- access: 0 reads nothing, 1 zeros, 2 the chunk
 abbrev pub accessAnswers : Access → Answer
 accessAnswers Nothing = given 0 0
@@ -70,6 +82,11 @@ statusAnswer (NotHeld r) start end = refused r
 
 abbrev pub heldAnswer : Held → Answer
 heldAnswer h = statusAnswer (h .status) (h .extent .start) (h .extent .end)
+
+-- stored size: its bytes
+abbrev pub storedAnswer : Stored → Answer
+storedAnswer (Size n) = given n 0
+storedAnswer (NotStored r) = refused r
 
 -- alarm: 1 sounds, 0 silent
 abbrev pub alarmAnswers : Alarm → Answer
@@ -97,3 +114,20 @@ verdictAnswer (Unsound r) = refused r
 
 abbrev pub reportedAnswer : Reported → ReportAnswer
 reportedAnswer a = reportNumbers (verdictAnswer (a .verdict)) (a .report)
+
+-- shape: the edition and P, C, M, N beside the number, and R, which is 0; of a refusal the shape is all 0 already
+abbrev pub shapeNumbers : Answer → Shape → ShapeAnswer
+shapeNumbers a g = record {
+  number = a .number;
+  place = a .place;
+  second = a .second;
+  edition = g .edition;
+  p = g .p;
+  c = g .c;
+  m = g .m;
+  n = g .n;
+  r = 0;
+}
+
+abbrev pub shapeAnswer : Loaded → ShapeAnswer
+shapeAnswer l = shapeNumbers (verdictAnswer (l .verdict)) (l .shape)

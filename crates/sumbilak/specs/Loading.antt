@@ -1,5 +1,5 @@
 -- Load for C: the shape and both sets as 81 words in a lent output.
-use Prim.Native.Nat.{ℕ, _*_}
+use Prim.Native.Nat.{ℕ, _+_, _*_}
 use mathlib.Core.Bool.{cond}
 use mathlib.Core.List.{List, [], _∷_, _++_}
 use lib.ListN.{length, drop}
@@ -9,13 +9,13 @@ use Rattle.layout.specs.declared.Refusal.the-variants.{Small}
 use Rattle.image.specs.declared.Verdict.{Verdict}
 use Rattle.image.specs.declared.Verdict.the-variants.{Passed, Refused}
 use Rattle.image.specs.declared.Loaded.{Loaded}
-use Rattle.image.specs.Loading.{loaded}
+use Rattle.image.specs.Loading.{unitSetWords, mapSetWords, loaded}
 use Rattle.sumbilak.specs.declared.Answer.{Answer}
 use Rattle.sumbilak.specs.Answers.{given, refused}
 
 -- "Load answers P, C, M, N and both": 4 numbers, 72 words, 5 words
 abbrev pub loadWords : ℕ
-loadWords = 81
+loadWords = 4 + unitSetWords + mapSetWords
 
 abbrev pub shapeWords : Shape → List ℕ
 shapeWords g = g .p ∷ g .c ∷ g .m ∷ g .n ∷ []

@@ -1,10 +1,14 @@
 // Answers as numbers.
 use crate::Answer;
 use crate::ReportAnswer;
+use crate::ShapeAnswer;
 use access::Access;
 use access::Held;
 use access::Split;
 use access::Status;
+use access::Stored;
+use convert::Converted;
+use image::Loaded;
 use image::Verdict;
 use layout::Formatted;
 use layout::Refusal;
@@ -92,6 +96,15 @@ pub(crate) fn repaired(x: Repaired) -> Answer
     }
 }
 
+pub(crate) fn converted(x: Converted) -> Answer
+    ensures { λ a. ⌜ a ≡ Answers.convertedAnswer x ⌝ }
+{
+    match x {
+        Converted::Bytes(n) => given(n as u64, 0),
+        Converted::Refused(r) => refused(r),
+    }
+}
+
 pub(crate) fn access(x: Access) -> Answer
     ensures { λ a. ⌜ a ≡ Answers.accessAnswers x ⌝ }
 {
@@ -117,6 +130,15 @@ pub(crate) fn held(x: Held) -> Answer
     }
 }
 
+pub(crate) fn stored(x: Stored) -> Answer
+    ensures { λ a. ⌜ a ≡ Answers.storedAnswer x ⌝ }
+{
+    match x {
+        Stored::Size(n) => given(n, 0),
+        Stored::Refused(r) => refused(r),
+    }
+}
+
 pub(crate) fn alarm(x: Alarm) -> Answer
     ensures { λ a. ⌜ a ≡ Answers.alarmAnswers x ⌝ }
 {
@@ -133,6 +155,26 @@ fn verdict(x: Verdict) -> Answer
     match x {
         Verdict::Passed => given(0, 0),
         Verdict::Refused(r) => refused(r),
+    }
+}
+
+// No unit is reserved yet: R is 0.
+pub(crate) fn shape(x: Loaded) -> ShapeAnswer
+    ensures { λ a. ⌜ a ≡ Answers.shapeAnswer x ⌝ }
+{
+    let v = x.verdict;
+    let a = verdict(v);
+    let g = x.shape;
+    ShapeAnswer {
+        number: a.number,
+        place: a.place,
+        second: a.second,
+        edition: g.edition as u64,
+        p: g.p as u64,
+        c: g.c as u64,
+        m: g.m as u64,
+        n: g.n as u64,
+        r: 0,
     }
 }
 

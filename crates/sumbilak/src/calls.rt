@@ -1,31 +1,60 @@
 // The exported functions: each hands its arguments on and its answer back as numbers.
 use crate::Answer;
 use crate::ReportAnswer;
+use crate::ShapeAnswer;
 use crate::answers;
 use crate::loading;
 use report::Level;
 use steps::Request;
 ghost use mathlib.Core.Path.{_≡_};
 ghost use lib.ListN.{length};
-ghost use Rattle.layout.specs.Format.{formatAnswer, formatImage};
+ghost use Rattle.layout.specs.Format.{formatAnswer, formatImage, format2Answer, format2Image};
+ghost use Rattle.layout.specs.Layout.{edition1, edition2};
+ghost use Rattle.image.specs.Loading.{loaded};
 ghost use Rattle.access.specs.Ranges.{splitAnswer, splitOut, accessAnswer};
 ghost use Rattle.access.specs.Parts.{heldOf};
+ghost use Rattle.access.specs.Sizes.{sizeAnswer};
 ghost use Rattle.report.specs.Reports.{reportAnswer};
 ghost use Rattle.report.specs.Alarms.{alarmAnswer};
 ghost use Rattle.repair.specs.Repair.{repairAnswer, repairImage, repairList};
+ghost use Rattle.convert.specs.Convert.{convertAnswer, convertOut};
 ghost use Rattle.planner.specs.Planner.{planAnswer, planOut};
 ghost use Rattle.rules.specs.Rules.{checked};
 ghost use Rattle.carry.specs.Carry.{carryAnswer, carryImage};
 ghost use Rattle.sumbilak.specs.Loading.{loadAnswer, loadOut};
-ghost use Rattle.sumbilak.specs.Answers.{formattedAnswer, splitAnswers, accessAnswers, heldAnswer, plannedAnswer, repairedAnswer, checkedAnswer, reportedAnswer, alarmAnswers};
+ghost use Rattle.sumbilak.specs.Answers.{formattedAnswer, shapeAnswer, splitAnswers, accessAnswers, heldAnswer, storedAnswer, plannedAnswer, repairedAnswer, convertedAnswer, checkedAnswer, reportedAnswer, alarmAnswers};
 
 #[no_mangle]
 pub extern "C" fn sumbilak_format(image: &mut [u8], p: u64, c: u64, m: u64, n: u64) -> Answer
-    ensures { λ r. ⌜ r ≡ formattedAnswer (formatAnswer (record { p = p; c = c; m = m; n = n }) (now (image .entry))) ⌝ }
-    ensures { λ r. ⌜ now (image .exit) ≡ formatImage (record { p = p; c = c; m = m; n = n }) (now (image .entry)) ⌝ }
+    ensures { λ r. ⌜ r ≡ formattedAnswer (formatAnswer (edition1 p c m n) (now (image .entry))) ⌝ }
+    ensures { λ r. ⌜ now (image .exit) ≡ formatImage (edition1 p c m n) (now (image .entry)) ⌝ }
 {
     let x = layout::format::format(image, p, c, m, n);
     answers::formatted(x)
+}
+
+#[no_mangle]
+pub extern "C" fn sumbilak_format2(
+    image: &mut [u8],
+    p: u64,
+    c: u64,
+    m: u64,
+    n: u64,
+    r: u64,
+) -> Answer
+    ensures { λ x. ⌜ x ≡ formattedAnswer (format2Answer (edition2 p c m n) r (now (image .entry))) ⌝ }
+    ensures { λ x. ⌜ now (image .exit) ≡ format2Image (edition2 p c m n) r (now (image .entry)) ⌝ }
+{
+    let x = layout::format::format2(image, p, c, m, n, r);
+    answers::formatted(x)
+}
+
+#[no_mangle]
+pub extern "C" fn sumbilak_shape(image: &[u8]) -> ShapeAnswer
+    ensures { λ r. ⌜ r ≡ shapeAnswer (loaded (now (image .entry))) ⌝ }
+{
+    let x = image::load::load(image);
+    answers::shape(x)
 }
 
 #[no_mangle]
@@ -59,6 +88,14 @@ pub extern "C" fn sumbilak_held(image: &[u8], chunk: u64) -> Answer
 {
     let x = access::parts::find_held(image, chunk);
     answers::held(x)
+}
+
+#[no_mangle]
+pub extern "C" fn sumbilak_stored_size(image: &[u8], chunk: u64) -> Answer
+    ensures { λ r. ⌜ r ≡ storedAnswer (sizeAnswer (now (image .entry)) chunk) ⌝ }
+{
+    let x = access::sizes::stored_size(image, chunk);
+    answers::stored(x)
 }
 
 #[no_mangle]
@@ -156,4 +193,13 @@ pub extern "C" fn sumbilak_repair(image: &mut [u8], out: &mut [u8]) -> Answer
 {
     let x = repair::mend::repair(image, out);
     answers::repaired(x)
+}
+
+#[no_mangle]
+pub extern "C" fn sumbilak_convert(image: &[u8], out: &mut [u8]) -> Answer
+    ensures { λ r. ⌜ r ≡ convertedAnswer (convertAnswer (now (image .entry)) (length (now (out .entry)))) ⌝ }
+    ensures { λ r. ⌜ now (out .exit) ≡ convertOut (now (image .entry)) (now (out .entry)) ⌝ }
+{
+    let x = convert::upgrade::convert(image, out);
+    answers::converted(x)
 }

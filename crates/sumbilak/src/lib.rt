@@ -26,3 +26,17 @@ pub struct ReportAnswer {
     pub held_ratio: f64,
     pub saved_ratio: f64,
 }
+
+// What a shape answers: the same numbers, and the edition with P, C, M, N and R, all 0 on a refusal.
+#[repr(C)]
+pub struct ShapeAnswer {
+    pub number: u64,
+    pub place: u64,
+    pub second: u64,
+    pub edition: u64,
+    pub p: u64,
+    pub c: u64,
+    pub m: u64,
+    pub n: u64,
+    pub r: u64,
+}

@@ -1,3 +1,4 @@
+-- `sumbilak::answers::formatted` meets its contract: each variant is answered as `formattedAnswer` says.
 use mathlib.Core.Path.{ap, sym, _∙_}
 use borrow.Author.Needs.{needs}
 use Rattle.sumbilak.specs.Answers.{formattedAnswer}

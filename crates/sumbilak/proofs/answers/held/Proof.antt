@@ -1,3 +1,4 @@
+-- `sumbilak::answers::held` meets its contract: an extent is answered by its start and its length, and a refusal like every other.
 use borrow.Author.Needs.{needs}
 use Rattle.sumbilak.proofs.answers.held.Statement.{statement}
 use Rattle.sumbilak.proofs.answers.held.Tie as tie

@@ -1,3 +1,4 @@
+-- `sumbilak::answers::refused` meets its contract: the number and the two places are what the refusal's functions ensure.
 use borrow.Author.Needs.{needs}
 use Rattle.sumbilak.proofs.answers.refused.Statement.{statement}
 use Rattle.sumbilak.proofs.answers.refused.Tie as tie

@@ -1,38 +1,28 @@
+-- `sumbilak::answers::repaired` meets its contract: each variant is answered as `repairedAnswer` says.
 use Rattle.sumbilak.specs.Answers.{repairedAnswer}
 use mathlib.Core.Path.{ap, sym, _∙_}
 use borrow.Author.Needs.{needs}
 use Rattle.sumbilak.proofs.answers.repaired.Statement.{statement}
 use Rattle.sumbilak.proofs.answers.repaired.Tie as tie
-use Rattle.sumbilak.proofs.answers.repaired.Reads as reads
-use Rattle.sumbilak.proofs.answers.repaired.Lts as lts
-use Rattle.sumbilak.proofs.answers.given.Reads as given-reads
-use Rattle.sumbilak.proofs.answers.refused.Reads as refused-reads
 
--- src/answers.rt:90:28
 enum-known-x : tie.Need-enum-known-x
 enum-known-x c = search needs
 
--- src/answers.rt:90:40
 cast-given : tie.Need-cast-given
 cast-given c = search needs
 
--- src/answers.rt:90:34
 given-requires : tie.Need-given-requires
 given-requires c κs = search needs
 
--- src/answers.rt:91:27
 enum-known-x-2 : tie.Need-enum-known-x-2
 enum-known-x-2 c = search needs
 
--- src/answers.rt:91:33
 refused-requires : tie.Need-refused-requires
 refused-requires c κs = search needs
 
--- src/answers.rt:86:1
 returns : tie.Need-returns
 returns c = c .given .ensures ∙ ap repairedAnswer (sym (c .before .before .x .given .1))
 
--- src/answers.rt:86:1
 returns-2 : tie.Need-returns-2
 returns-2 c = c .refused .ensures ∙ ap repairedAnswer (sym (c .before .before .x2 .given .1))
 

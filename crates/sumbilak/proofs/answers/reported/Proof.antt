@@ -1,3 +1,4 @@
+-- `sumbilak::answers::reported` meets its contract: the verdict's numbers come first, as `verdict` gives them, and then the report's figures.
 use mathlib.Core.Path.{ap}
 use borrow.Author.Needs.{needs}
 use Rattle.sumbilak.specs.declared.Answer.{Answer}

@@ -1,3 +1,4 @@
+-- `sumbilak::calls::sumbilak_access` meets its contract: the answer of `access::ranges::access` as numbers.
 use mathlib.Core.Path.{ap, _∙_}
 use borrow.Author.Needs.{needs}
 use Rattle.sumbilak.specs.Answers.{accessAnswers}

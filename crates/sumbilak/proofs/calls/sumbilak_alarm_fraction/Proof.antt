@@ -1,3 +1,4 @@
+-- `sumbilak::calls::sumbilak_alarm_fraction` meets its contract: the answer of `report::alarms::alarm` as numbers.
 use mathlib.Core.Path.{ap, _∙_}
 use borrow.Author.Needs.{needs}
 use Rattle.sumbilak.specs.Answers.{alarmAnswers}

@@ -1,3 +1,4 @@
+-- `sumbilak::calls::sumbilak_carry_discard` meets its contract: the answer of `carry::carry` as numbers, and the image that it leaves.
 use mathlib.Core.Path.{ap, _∙_}
 use Rattle.sumbilak.specs.Answers.{checkedAnswer}
 use borrow.Author.Needs.{needs}

@@ -1,3 +1,4 @@
+-- `sumbilak::calls::sumbilak_check_discard` meets its contract: the answer of `checker::check::check` as numbers.
 use mathlib.Core.Path.{ap, _∙_}
 use borrow.Author.Needs.{needs}
 use Rattle.sumbilak.specs.Answers.{checkedAnswer}

@@ -1,3 +1,4 @@
+-- `sumbilak::calls::sumbilak_format` meets its contract: the answer of `layout::format::format` as numbers, and the image that it leaves.
 use mathlib.Core.Path.{ap, _∙_}
 use Rattle.sumbilak.specs.Answers.{formattedAnswer}
 use borrow.Author.Needs.{needs}

@@ -1,3 +1,4 @@
+-- `sumbilak::calls::sumbilak_held` meets its contract: the answer of `access::parts::find_held` as numbers.
 use mathlib.Core.Path.{ap, _∙_}
 use Rattle.sumbilak.specs.Answers.{heldAnswer}
 use borrow.Author.Needs.{needs}

@@ -1,3 +1,4 @@
+-- `sumbilak::calls::sumbilak_plan_discard` meets its contract: the answer of `planner::plan::plan_discard` as numbers, and the buffer that it leaves.
 use mathlib.Core.Path.{ap, _∙_}
 use Rattle.sumbilak.specs.Answers.{plannedAnswer}
 use borrow.Author.Needs.{needs}

@@ -1,30 +1,22 @@
+-- `sumbilak::calls::sumbilak_repair` meets its contract: the answer of `repair::mend::repair` as numbers, and the image and the list that it leaves.
 use Rattle.sumbilak.specs.Answers.{repairedAnswer}
 use mathlib.Core.Path.{ap, _∙_}
 use borrow.Author.Needs.{needs}
 use Rattle.sumbilak.proofs.calls.sumbilak_repair.Statement.{statement}
 use Rattle.sumbilak.proofs.calls.sumbilak_repair.Tie as tie
-use Rattle.sumbilak.proofs.calls.sumbilak_repair.Reads as reads
-use Rattle.sumbilak.proofs.calls.sumbilak_repair.Lts as lts
-use Rattle.repair.proofs.mend.repair.Reads as repair-reads
-use Rattle.sumbilak.proofs.answers.repaired.Reads as repaired-reads
 
--- src/calls.rt:157:9
 repair-requires : tie.Need-repair-requires
 repair-requires c κs = search needs
 
--- src/calls.rt:158:5
 repaired-requires : tie.Need-repaired-requires
 repaired-requires c κs = search needs
 
--- src/calls.rt:151:1
 same-length : tie.Need-same-length
 same-length c = search needs
 
--- src/calls.rt:151:1
 same-length-2 : tie.Need-same-length-2
 same-length-2 c = search needs
 
--- src/calls.rt:151:1
 returns : tie.Need-returns
 returns c = (c .repaired .ensures ∙ ap repairedAnswer (c .before .before .before .before .before .repair .ensures .0), c .before .before .before .before .before .repair .ensures .1)
 

@@ -1,3 +1,4 @@
+-- `sumbilak::calls::sumbilak_report` meets its contract: the answer of `report::reports::report` as numbers.
 use mathlib.Core.Path.{ap, _∙_}
 use borrow.Author.Needs.{needs}
 use Rattle.sumbilak.specs.Answers.{reportedAnswer}

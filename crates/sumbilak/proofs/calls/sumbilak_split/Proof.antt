@@ -1,3 +1,4 @@
+-- `sumbilak::calls::sumbilak_split` meets its contract: the answer of `access::ranges::split` as numbers, and the buffer that it leaves.
 use mathlib.Core.Path.{ap, _∙_}
 use Rattle.sumbilak.specs.Answers.{splitAnswers}
 use borrow.Author.Needs.{needs}
