@@ -5,7 +5,7 @@ use mathlib.Core.Bool.{false, cond, _&&_}
 use mathlib.Core.Logic.{⊎-elim}
 use mathlib.Core.List.{List}
 use native.Mathlib.Omega.{arith}
-use borrow.Author.Tests.{ltb-true, ltb-false, lt-ltb, le-ltb, lt-leb}
+use borrow.Author.Tests.{ltb-true, lt-ltb, le-ltb, lt-leb}
 use lib.Dec.{ltb, leb, eqb}
 use lib.ListN.{length}
 use Rattle.search.proofs.Bools.{either, and-false-left, and-false-right}

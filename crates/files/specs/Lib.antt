@@ -1,3 +1,2 @@
+pub mod Checks
 pub mod LongPlans
-pub mod Outcomes
-pub mod Ratios

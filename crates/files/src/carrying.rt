@@ -1,5 +1,4 @@
 // Plans carried out on an image file.
-use crate::MAX_IMAGE_BYTES;
 use crate::PLAN_ROOM;
 use crate::READ_STEPS;
 use carry::carry;
@@ -11,6 +10,7 @@ use host::making::rewrite;
 use host::reading::file_length;
 use host::reading::read_file;
 use host::reading::read_open;
+use layout::MAX_IMAGE_BYTES;
 use layout::Refusal;
 use rules::Checked;
 use steps::Decoded;
@@ -21,6 +21,7 @@ use steps::Step;
 use steps::reading::found_at;
 ghost use mathlib.Core.Path.{_≡_};
 ghost use Prim.Native.Nat.{_≤_};
+ghost use Rattle.layout.specs.Layout.{maxImageBytes};
 ghost use Rattle.files.specs.LongPlans.{askedOf};
 
 // How many steps to ask of the first 65 of a longer plan, where n are asked of the plan: what is past all of its steps stays so.
@@ -84,7 +85,7 @@ fn answer_for(
     plan: &[u8],
     n: u64,
 ) -> Checked
-    requires { ⌜ length ≤ 38944 ⌝ }
+    requires { ⌜ length ≤ maxImageBytes ⌝ }
 {
     let mut copy = image;
     carry(&mut copy[..length], request, plan, n)
@@ -106,7 +107,7 @@ fn carry_copy(
     plan: &[u8],
     n: u64,
 ) -> bool
-    requires { ⌜ length ≤ 38944 ⌝ }
+    requires { ⌜ length ≤ maxImageBytes ⌝ }
 {
     let mut copy = image;
     carry_on(fd, name, &mut copy[..length], request, plan, n)
@@ -124,7 +125,7 @@ fn carry_stages(
     plan: &[u8],
     n: u64,
 ) -> bool
-    requires { ⌜ length ≤ 38944 ⌝ }
+    requires { ⌜ length ≤ maxImageBytes ⌝ }
 {
     let early = before_link(plan, n);
     if !carry_copy(fd, name, image, length, request, plan, early) {
@@ -146,7 +147,7 @@ fn carry_image(
     plan: &[u8],
     n: u64,
 ) -> Outcome
-    requires { ⌜ length ≤ 38944 ⌝ }
+    requires { ⌜ length ≤ maxImageBytes ⌝ }
 {
     let answer = answer_for(image, length, request, plan, n);
     match answer {

@@ -1,110 +1,78 @@
-// The programs: what each does with its arguments, and its last line.
+// The programs that make or change files: what each does with its arguments, and its last line.
 use crate::carrying::carry_file;
+use crate::converting::convert_file;
 use crate::formatting::format_file;
-use crate::listing::list_file;
 use crate::planning::check_file;
 use crate::planning::plan_file;
 use crate::repairing::repair_file;
-use crate::space::alarm_file;
-use crate::space::report_file;
 use decimals::Number;
 use host::Asked;
 use host::Outcome;
-use host::Threshold;
 use host::arguments;
-use host::saying::complain;
 use host::saying::conclude;
-use host::saying::text;
+use layout::FIRST_EDITION;
+use layout::LAST_EDITION;
 use steps::Request;
 
-fn list_one() -> Outcome {
-    if !arguments::are(2, b"list FILE") {
-        return Outcome::Unreadable;
-    }
-    list_file(1)
-}
-
-// Lists the volume in a file.
-pub fn list() {
-    conclude(list_one());
-}
-
-// Argument i on a line of its own.
-fn name_line(i: usize) {
-    let mut name = io::buffer();
-    let length = os::arg(i, &mut name);
-    text(&name[..length]);
-    text(b"\n");
-}
-
-// The file that argument i names, after a line with its name: what its repair says, where it is to be repaired first, and what it holds.
-fn show_case(i: usize, repair_first: bool) {
-    name_line(i);
-    if repair_first {
-        conclude(repair_file(i));
-    }
-    conclude(list_file(i));
-}
-
-// The same for all of the arguments.
-fn show_cases(usage: &[u8], repair_first: bool) {
-    let n = os::arg_count();
-    if n < 2 {
-        complain(b"usage", usage);
-        conclude(Outcome::Unreadable);
-        return;
-    }
-    let mut i: usize = 1;
-    while i < n {
-        show_case(i, repair_first);
-        i += 1;
+// The numbers of a fresh volume from argument 2 on, one after the other. Edition 2 has one more, its reserved units.
+fn fresh_reserving(p: u64, c: u64, m: u64, n: u64) -> Outcome {
+    let r = arguments::number(6);
+    match r {
+        Number::Value(reserved) => format_file(LAST_EDITION, p, c, m, n, reserved),
+        Number::Malformed => Outcome::Unreadable,
     }
 }
 
-// Lists the volumes in several files, each after a line with its name.
-pub fn list_all() {
-    show_cases(b"list_cases FILE..", false);
+fn fresh_on(edition: u32, p: u64, c: u64, m: u64, n: u64) -> Outcome {
+    if edition == FIRST_EDITION {
+        return format_file(FIRST_EDITION, p, c, m, n, 0);
+    }
+    fresh_reserving(p, c, m, n)
 }
 
-// The four numbers of a shape from argument 2 on, one after the other.
-fn fresh_with(p: u64, c: u64, m: u64) -> Outcome {
+fn fresh_with(edition: u32, p: u64, c: u64, m: u64) -> Outcome {
     let n = arguments::number(5);
     match n {
-        Number::Value(units) => format_file(p, c, m, units),
+        Number::Value(units) => fresh_on(edition, p, c, m, units),
         Number::Malformed => Outcome::Unreadable,
     }
 }
 
-fn fresh_of(p: u64, c: u64) -> Outcome {
+fn fresh_of(edition: u32, p: u64, c: u64) -> Outcome {
     let m = arguments::number(4);
     match m {
-        Number::Value(maps) => fresh_with(p, c, maps),
+        Number::Value(maps) => fresh_with(edition, p, c, maps),
         Number::Malformed => Outcome::Unreadable,
     }
 }
 
-fn fresh_from(p: u64) -> Outcome {
+fn fresh_from(edition: u32, p: u64) -> Outcome {
     let c = arguments::number(3);
     match c {
-        Number::Value(chunks) => fresh_of(p, chunks),
+        Number::Value(chunks) => fresh_of(edition, p, chunks),
         Number::Malformed => Outcome::Unreadable,
     }
 }
 
-fn fresh_one() -> Outcome {
-    if !arguments::are(6, b"fresh FILE P C M N") {
+fn fresh_in(edition: u32, count: usize, usage: &[u8]) -> Outcome {
+    if !arguments::are(count, usage) {
         return Outcome::Unreadable;
     }
     let p = arguments::number(2);
     match p {
-        Number::Value(units) => fresh_from(units),
+        Number::Value(units) => fresh_from(edition, units),
         Number::Malformed => Outcome::Unreadable,
     }
 }
 
-// Makes a fresh volume in a new file.
+// Makes a fresh volume of edition 1 in a new file.
 pub fn fresh() {
-    conclude(fresh_one());
+    conclude(fresh_in(FIRST_EDITION, 6, b"fresh FILE P C M N"));
+}
+
+// The same of edition 2.
+pub fn fresh2() {
+    conclude(fresh_in(LAST_EDITION, 7, b"fresh2 FILE P C M N R"));
 }
 
 fn plan_one() -> Outcome {
@@ -161,33 +129,16 @@ pub fn carry_out() {
     conclude(carry_one());
 }
 
-fn report_one() -> Outcome {
-    if !arguments::are(2, b"report_on IMAGE") {
+fn convert_one() -> Outcome {
+    if !arguments::are(3, b"convert_image IMAGE NEWFILE") {
         return Outcome::Unreadable;
     }
-    report_file()
+    convert_file()
 }
 
-// Reports on the space of a volume.
-pub fn report_on() {
-    conclude(report_one());
-}
-
-fn alarm_one() -> Outcome {
-    let usage = b"alarm_at IMAGE units COUNT | fraction DECIMAL";
-    if !arguments::are(4, usage) {
-        return Outcome::Unreadable;
-    }
-    let threshold = arguments::level(usage);
-    match threshold {
-        Threshold::At(level) => alarm_file(level),
-        Threshold::Malformed => Outcome::Unreadable,
-    }
-}
-
-// Says whether the alarm of a volume sounds at a level.
-pub fn alarm_at() {
-    conclude(alarm_one());
+// Converts an image of edition 1 to edition 2, in a new file.
+pub fn convert_image() {
+    conclude(convert_one());
 }
 
 fn repair_one() -> Outcome {
@@ -200,9 +151,4 @@ fn repair_one() -> Outcome {
 // Repairs an image file in place, and prints the chunks that were unlinked.
 pub fn repair_image() {
     conclude(repair_one());
-}
-
-// Repairs several image files in place, each after a line with its name, and lists each afterwards.
-pub fn repair_all() {
-    show_cases(b"repair_cases FILE..", true);
 }

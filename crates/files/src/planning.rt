@@ -1,5 +1,4 @@
 // Plans: made, printed in words, and checked.
-use crate::MAX_IMAGE_BYTES;
 use crate::OWN_PLAN_ROOM;
 use crate::PLAN_ROOM;
 use checker::check::check;
@@ -10,7 +9,11 @@ use host::making::make_file;
 use host::reading::read_file;
 use host::saying::labelled;
 use host::saying::text;
+use layout::MAX_IMAGE_BYTES;
 use layout::Refusal;
+use layout::Trailer;
+use layout::geometry::head;
+use layout::trailers::check_trailer;
 use planner::Planned;
 use planner::plan::plan_discard;
 use planner::plan::plan_write;
@@ -25,7 +28,7 @@ ghost use mathlib.Core.Path.{_≡_};
 ghost use lib.ListN.{length};
 ghost use Rattle.planner.specs.Planner.{planAnswer, planOut};
 ghost use Rattle.rules.specs.Rules.{checked};
-ghost use Rattle.files.specs.Outcomes.{checkOutcome};
+ghost use Rattle.files.specs.Checks.{checkOutcome};
 
 // What a MAP or LINK step stores.
 fn stored(label: &[u8], value: Value) {
@@ -35,7 +38,16 @@ fn stored(label: &[u8], value: Value) {
     }
 }
 
-fn step_words(step: Step) {
+// The value of a MAP step: a unit, or a size in the words before the units.
+fn map_value(word: u32, head: u32, value: Value) {
+    if word < head {
+        stored(b" size ", value);
+    } else {
+        stored(b" unit ", value);
+    }
+}
+
+fn step_words(step: Step, head: u32) {
     match step {
         Step::Data {
             unit,
@@ -48,7 +60,7 @@ fn step_words(step: Step) {
         Step::Map { map, word, value } => {
             labelled(b"map ", map as u64);
             labelled(b" word ", word as u64);
-            stored(b" unit ", value);
+            map_value(word, head, value);
         }
         Step::Link { chunk, value } => {
             labelled(b"link chunk ", chunk as u64);
@@ -59,32 +71,41 @@ fn step_words(step: Step) {
 }
 
 // A step on a line.
-fn step_line(d: Decoded) {
+fn step_line(d: Decoded, head: u32) {
     match d {
-        Decoded::Whole(step) => step_words(step),
+        Decoded::Whole(step) => step_words(step, head),
         Decoded::Malformed => text(b"malformed"),
     }
     text(b"\n");
 }
 
-// The steps of a plan, one a line.
-fn step_lines(plan: &[u8]) {
+// The steps of a plan, one a line. `head` is how many words of a map stand before its units.
+fn step_lines(plan: &[u8], head: u32) {
     let whole = plan.len() / STEP_BYTES;
     let mut i: usize = 0;
     while i < whole {
         let d = decode_at(plan, i);
-        step_line(d);
+        step_line(d, head);
         i += 1;
     }
 }
 
 // Makes the file that argument 2 names of a plan, and then prints it: what is printed is there.
-fn keep_plan(plan: &[u8]) -> Outcome {
+fn keep_plan(plan: &[u8], head: u32) -> Outcome {
     if make_file(2, plan) {
-        step_lines(plan);
+        step_lines(plan, head);
         return Outcome::Answered(Word::Planned);
     }
     Outcome::Unreadable
+}
+
+// How many words of a map of an image stand before its units.
+fn head_of(image: &[u8]) -> u32 {
+    let t = check_trailer(image);
+    match t {
+        Trailer::Fits(g) => head(g),
+        Trailer::Refused(_) => 0,
+    }
 }
 
 // The planner's plan for a request.
@@ -103,7 +124,8 @@ fn plan_image(image: &[u8], request: Request, room: &mut [u8]) -> Outcome {
     match p {
         Planned::Steps(n) => {
             let bytes = STEP_BYTES * n as usize;
-            keep_plan(&room[..bytes])
+            let head = head_of(image);
+            keep_plan(&room[..bytes], head)
         }
         Planned::Refused(r) => Outcome::Refused(r),
     }

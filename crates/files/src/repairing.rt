@@ -1,11 +1,11 @@
 // Damaged images repaired in their files.
-use crate::MAX_IMAGE_BYTES;
 use host::Outcome;
 use host::Status;
 use host::making::rewrite_file;
 use host::reading::read_file;
 use host::saying::number_line;
 use layout::MAX_CHUNKS;
+use layout::MAX_IMAGE_BYTES;
 use layout::Refusal;
 use repair::Repaired;
 use repair::mend::NUMBER_BYTES;
@@ -59,7 +59,7 @@ fn repair_image(i: usize, image: &mut [u8]) -> Outcome {
 }
 
 // Repairs the image file that argument i names.
-pub(crate) fn repair_file(i: usize) -> Outcome {
+pub fn repair_file(i: usize) -> Outcome {
     let mut image = [0u8; MAX_IMAGE_BYTES];
     let content = read_file(i, &mut image);
     let status = content.status;

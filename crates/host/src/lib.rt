@@ -51,6 +51,8 @@ pub enum Word {
     Reported,
     Sounds,
     Silent,
+    Sized,
+    Converted,
 }
 
 // How a program's work ended. `Listed` is an answer that was printed whole, and has no last line of its own. Where it is `Unreadable`, standard error has

@@ -95,6 +95,8 @@ fn answered(word: Word) {
         Word::Reported => text(b"s REPORTED\n"),
         Word::Sounds => text(b"s SOUNDS\n"),
         Word::Silent => text(b"s SILENT\n"),
+        Word::Sized => text(b"s SIZED\n"),
+        Word::Converted => text(b"s CONVERTED\n"),
     }
 }
 

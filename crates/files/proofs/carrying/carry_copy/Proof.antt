@@ -1,6 +1,7 @@
 -- `files::carrying::carry_copy` is safe: the image's bytes are within the array.
 use lib.ListN.{length}
 use mathlib.Core.Path.{_≡_}
+use Rattle.layout.specs.Layout.{maxImageBytes}
 use Rattle.files.proofs.Parts.{part-length}
 use native.Mathlib.Omega.{arith}
 use borrow.Author.Needs.{needs}
@@ -11,7 +12,7 @@ array-borrow-prefix-copy : tie.Need-array-borrow-prefix-copy
 array-borrow-prefix-copy c = search needs
 
 slice-aggregate-carry-on : tie.Need-slice-aggregate-carry-on
-slice-aggregate-carry-on c = part-length _ _ (let l : length (c .before .before .before .args .image) ≡ 38944 = search needs in omega arith)
+slice-aggregate-carry-on c = part-length _ _ (let l : length (c .before .before .before .args .image) ≡ maxImageBytes = search needs in omega arith)
 
 carry-on-requires : tie.Need-carry-on-requires
 carry-on-requires c κs = search needs

@@ -1,5 +1,5 @@
 -- `files::planning::check_image` meets its contract: the outcome of what check answered.
-use Rattle.files.specs.Outcomes.{checkOutcome}
+use Rattle.files.specs.Checks.{checkOutcome}
 use mathlib.Core.Path.{sym, ap, _∙_}
 use borrow.Author.Needs.{needs}
 use Rattle.files.proofs.planning.check_image.Statement.{statement}

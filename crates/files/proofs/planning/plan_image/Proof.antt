@@ -1,10 +1,10 @@
 -- `files::planning::plan_image` is safe: the steps that the planner answers are in the room.
-use Rattle.planner.proofs.Theorems.{answered}
-use Rattle.files.proofs.Parts.{part-length}
-use lib.ListN.{length}
-use denote.Ref.{now}
-use mathlib.Core.Path.{sym, _∙_}
 use native.Mathlib.Omega.{arith}
+use mathlib.Core.Path.{sym, _∙_}
+use denote.Ref.{now}
+use lib.ListN.{length}
+use Rattle.files.proofs.Parts.{part-length}
+use Rattle.planner.proofs.Theorems.{answered}
 use borrow.Author.Needs.{needs}
 use Rattle.files.proofs.planning.plan_image.Statement.{statement}
 use Rattle.files.proofs.planning.plan_image.Tie as tie
@@ -21,11 +21,22 @@ cast-bytes c = search needs
 mul-bytes : tie.Need-mul-bytes
 mul-bytes c = search needs
 
+head-of-requires : tie.Need-head-of-requires
+head-of-requires c κs = search needs
+
 slice-reshare-prefix-keep-plan : tie.Need-slice-reshare-prefix-keep-plan
-slice-reshare-prefix-keep-plan c = let a = c .before .before .before .before .before .before .before .before .before .args in let f = answered (now (a .image)) (a .request) (length (now (a .room))) _ (sym (c .before .before .before .before .before .plan-for .ensures .0) ∙ c .before .p .given .1) .fits in omega arith
+slice-reshare-prefix-keep-plan c =
+    let a = c .before .before .before .before .before .before .before .before .before .before .args in
+    let steps = sym (c .before .before .before .before .before .before .plan-for .ensures .0) ∙ c .before .before .p .given .1 in
+    let f = answered (now (a .image)) (a .request) (length (now (a .room))) _ steps .fits in
+    omega arith
 
 slice-aggregate-keep-plan : tie.Need-slice-aggregate-keep-plan
-slice-aggregate-keep-plan c = let a = c .before .before .before .before .before .before .before .before .before .before .args in let f = answered (now (a .image)) (a .request) (length (now (a .room))) _ (sym (c .before .before .before .before .before .before .plan-for .ensures .0) ∙ c .before .before .p .given .1) .fits in part-length _ _ (omega arith)
+slice-aggregate-keep-plan c =
+    let a = c .before .before .before .before .before .before .before .before .before .before .before .args in
+    let steps = sym (c .before .before .before .before .before .before .before .plan-for .ensures .0) ∙ c .before .before .before .p .given .1 in
+    let f = answered (now (a .image)) (a .request) (length (now (a .room))) _ steps .fits in
+    part-length _ _ (omega arith)
 
 keep-plan-requires : tie.Need-keep-plan-requires
 keep-plan-requires c κs = search needs
@@ -53,6 +64,7 @@ plan-image-spec =
     enum-known-p
     cast-bytes
     mul-bytes
+    head-of-requires
     slice-reshare-prefix-keep-plan
     slice-aggregate-keep-plan
     keep-plan-requires

@@ -5,10 +5,10 @@ use Rattle.files.proofs.planning.step_lines.Statement.{statement}
 use Rattle.files.proofs.planning.step_lines.Tie as tie
 
 abbrev Inv-loop : tie.InvT-loop
-Inv-loop plan whole i₀ i = i ≤ whole
+Inv-loop plan head whole i₀ i = i ≤ whole
 
 abbrev μ-loop : tie.MeasureT-loop
-μ-loop plan whole i₀ i = whole - i
+μ-loop plan head whole i₀ i = whole - i
 
 loop-holds : tie.Need-loop-holds Inv-loop μ-loop
 loop-holds c = search needs

@@ -23,10 +23,16 @@ mul-bytes : tie.Need-mul-bytes
 mul-bytes c = search needs
 
 array-share-prefix-list : tie.Need-array-share-prefix-list
-array-share-prefix-list c = let f = answered _ _ _ (sym (c .before .before .before .before .before .before .before .repair .ensures .0) ∙ c .before .before .answer .given .1) .enough in omega arith
+array-share-prefix-list c =
+    let unlinked = sym (c .before .before .before .before .before .before .before .repair .ensures .0) ∙ c .before .before .answer .given .1 in
+    let f = answered _ _ _ unlinked .enough in
+    omega arith
 
 slice-aggregate-keep-repaired : tie.Need-slice-aggregate-keep-repaired
-slice-aggregate-keep-repaired c = let f = answered _ _ _ (sym (c .before .before .before .before .before .before .before .before .repair .ensures .0) ∙ c .before .before .before .answer .given .1) .enough in part-length _ _ (omega arith)
+slice-aggregate-keep-repaired c =
+    let unlinked = sym (c .before .before .before .before .before .before .before .before .repair .ensures .0) ∙ c .before .before .before .answer .given .1 in
+    let f = answered _ _ _ unlinked .enough in
+    part-length _ _ (omega arith)
 
 keep-repaired-requires : tie.Need-keep-repaired-requires
 keep-repaired-requires c κs = search needs

@@ -40,7 +40,9 @@ returns-2 : tie.Need-returns-2
 returns-2 c = search needs
 
 cast-t11 : tie.Need-cast-t11
-cast-t11 c = (not-negative (toZ w64 (ofZ w64 (c .before .before .lseek .result))) (c .if2 .left), fits-natAbs {w = w64} {w′ = w64} tt (sfits-toZ (fits-ofZ {z = c .before .before .lseek .result} (search needs))))
+cast-t11 c =
+    let z = c .before .before .lseek .result in
+    (not-negative (toZ w64 (ofZ w64 z)) (c .if2 .left), fits-natAbs {w = w64} {w′ = w64} tt (sfits-toZ (fits-ofZ {z = z} (search needs))))
 
 returns-3 : tie.Need-returns-3
 returns-3 c = search needs

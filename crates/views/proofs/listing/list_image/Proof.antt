@@ -1,12 +1,12 @@
--- `files::listing::list_image` is safe: a loaded image has its shape, and its free sets are 72 and 5 words.
+-- `views::listing::list_image` is safe: a loaded image has its shape, and its free sets are 72 and 5 words.
 use Rattle.image.proofs.Loads.{loaded-known}
 use lib.ListN.{length}
 use denote.Ref.{now}
 use mathlib.Core.Path.{_≡_}
 use native.Mathlib.Omega.{arith}
 use borrow.Author.Needs.{needs}
-use Rattle.files.proofs.listing.list_image.Statement.{statement}
-use Rattle.files.proofs.listing.list_image.Tie as tie
+use Rattle.views.proofs.listing.list_image.Statement.{statement}
+use Rattle.views.proofs.listing.list_image.Tie as tie
 
 load-requires : tie.Need-load-requires
 load-requires c κs = search needs
@@ -21,7 +21,10 @@ volume-line-requires : tie.Need-volume-line-requires
 volume-line-requires c κs = search needs
 
 chunk-lines-requires : tie.Need-chunk-lines-requires
-chunk-lines-requires c κs = loaded-known (now (c .before .before .before .before .before .before .before .before .args .image)) (c .before .before .before .before .before .before .load .result) (c .before .before .before .before .before .before .load .ensures) (c .before .before .before .before .enum-told .given .1) .shaped
+chunk-lines-requires c κs =
+    let s = now (c .before .before .before .before .before .before .before .before .args .image) in
+    let l = c .before .before .before .before .before .before .load in
+    loaded-known s (l .result) (l .ensures) (c .before .before .before .before .enum-told .given .1) .shaped
 
 slice-aggregate-set-line : tie.Need-slice-aggregate-set-line
 slice-aggregate-set-line c = search needs
@@ -30,7 +33,10 @@ slice-aggregate-set-line-2 : tie.Need-slice-aggregate-set-line-2
 slice-aggregate-set-line-2 c = search needs
 
 set-line-requires : tie.Need-set-line-requires
-set-line-requires c κs = let long : length (c .before .before .before .before .before .before .before .before .before .load .result .units) ≡ 72 = search needs in omega arith
+set-line-requires c κs =
+    let l = c .before .before .before .before .before .before .before .before .before .load in
+    let long : length (l .result .units) ≡ 72 = search needs in
+    omega arith
 
 slice-aggregate-set-line-3 : tie.Need-slice-aggregate-set-line-3
 slice-aggregate-set-line-3 c = search needs
@@ -39,7 +45,10 @@ slice-aggregate-set-line-4 : tie.Need-slice-aggregate-set-line-4
 slice-aggregate-set-line-4 c = search needs
 
 set-line-requires-2 : tie.Need-set-line-requires-2
-set-line-requires-2 c κs = let long : length (c .before .before .before .before .before .before .before .before .before .before .before .before .load .result .maps) ≡ 5 = search needs in omega arith
+set-line-requires-2 c κs =
+    let l = c .before .before .before .before .before .before .before .before .before .before .before .before .load in
+    let long : length (l .result .maps) ≡ 5 = search needs in
+    omega arith
 
 returns : tie.Need-returns
 returns c = search needs

@@ -1,8 +1,8 @@
--- `files::listing::units` is safe and ends: word j stands within the words.
+-- `views::listing::units` is safe and ends: word j stands within the words.
 use borrow.Author.Needs.{needs}
 use Prim.Native.Nat.{_-_, _≤_}
-use Rattle.files.proofs.listing.units.Statement.{statement}
-use Rattle.files.proofs.listing.units.Tie as tie
+use Rattle.views.proofs.listing.units.Statement.{statement}
+use Rattle.views.proofs.listing.units.Tie as tie
 
 abbrev Inv-loop : tie.InvT-loop
 Inv-loop words n j₀ t4 j = j ≤ n

@@ -1,5 +1,4 @@
 // The space report and the alarm.
-use crate::MAX_IMAGE_BYTES;
 use host::Outcome;
 use host::Status;
 use host::Word;
@@ -8,6 +7,7 @@ use host::saying::labelled;
 use host::saying::number;
 use host::saying::text;
 use image::Verdict;
+use layout::MAX_IMAGE_BYTES;
 use layout::Refusal;
 use report::Alarm;
 use report::Level;
@@ -16,8 +16,8 @@ use report::alarms::alarm;
 use report::reports::report;
 ghost use mathlib.Core.Path.{_≡_};
 ghost use Rattle.report.specs.Alarms.{alarmAnswer};
-ghost use Rattle.files.specs.Outcomes.{alarmOutcome};
-ghost use Rattle.files.specs.Ratios.{tenThousandths};
+ghost use Rattle.views.specs.Alarms.{alarmOutcome};
+ghost use Rattle.views.specs.Ratios.{tenThousandths};
 
 // A count's share of itself and a rest, in ten-thousandths, to the nearest one, a half upwards. The report's own ratios are f64, and exact to 53 bits; to
 // print one takes a further product, which rounds again and falls below the half in one of forty halves. So the digits come from the exact counts, of which

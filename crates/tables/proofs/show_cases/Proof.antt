@@ -1,8 +1,8 @@
--- `files::commands::show_cases` is safe and ends: one argument fewer is left at each turn.
+-- `tables::show_cases` is safe and ends: one argument fewer is left at each turn.
 use borrow.Author.Needs.{needs}
 use Prim.Native.Nat.{_-_}
-use Rattle.files.proofs.commands.show_cases.Statement.{statement}
-use Rattle.files.proofs.commands.show_cases.Tie as tie
+use Rattle.tables.proofs.show_cases.Statement.{statement}
+use Rattle.tables.proofs.show_cases.Tie as tie
 
 abbrev Inv-loop : tie.InvT-loop
 Inv-loop usage first n i₀ i = Unit {0}

@@ -1,9 +1,9 @@
--- `files::space::ten_thousandths` meets its contract.
-use Rattle.files.specs.Ratios.{tenThousandths}
+-- `views::space::ten_thousandths` meets its contract.
+use Rattle.views.specs.Ratios.{tenThousandths}
 use borrow.Author.Tests.{eq-eqb, ne-eqb}
 use borrow.Author.Needs.{needs}
-use Rattle.files.proofs.space.ten_thousandths.Statement.{statement}
-use Rattle.files.proofs.space.ten_thousandths.Tie as tie
+use Rattle.views.proofs.space.ten_thousandths.Statement.{statement}
+use Rattle.views.proofs.space.ten_thousandths.Tie as tie
 
 add-all : tie.Need-add-all
 add-all c = search needs

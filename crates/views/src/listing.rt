@@ -1,5 +1,4 @@
 // The listing of a volume, as document 01 prints it.
-use crate::MAX_IMAGE_BYTES;
 use access::parts::held;
 use bitset::count;
 use host::Outcome;
@@ -13,6 +12,7 @@ use image::Verdict;
 use image::load::load;
 use image::maps::link;
 use layout::ABSENT;
+use layout::MAX_IMAGE_BYTES;
 use layout::Refusal;
 use layout::Shape;
 ghost use Prim.Native.Nat.{_<_};
@@ -96,7 +96,7 @@ fn list_image(image: &[u8]) -> Outcome {
 }
 
 // Lists the file that argument i names.
-pub(crate) fn list_file(i: usize) -> Outcome {
+pub fn list_file(i: usize) -> Outcome {
     let mut image = [0u8; MAX_IMAGE_BYTES];
     let content = read_file(i, &mut image);
     let status = content.status;

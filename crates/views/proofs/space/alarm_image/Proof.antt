@@ -1,9 +1,9 @@
--- `files::space::alarm_image` meets its contract: the outcome of what alarm answered.
-use Rattle.files.specs.Outcomes.{alarmOutcome}
+-- `views::space::alarm_image` meets its contract: the outcome of what alarm answered.
+use Rattle.views.specs.Alarms.{alarmOutcome}
 use mathlib.Core.Path.{sym, ap, _∙_}
 use borrow.Author.Needs.{needs}
-use Rattle.files.proofs.space.alarm_image.Statement.{statement}
-use Rattle.files.proofs.space.alarm_image.Tie as tie
+use Rattle.views.proofs.space.alarm_image.Statement.{statement}
+use Rattle.views.proofs.space.alarm_image.Tie as tie
 
 alarm-requires : tie.Need-alarm-requires
 alarm-requires c κs = search needs

@@ -1,8 +1,8 @@
--- `files::listing::chunk_lines` is safe and ends.
+-- `views::listing::chunk_lines` is safe and ends.
 use borrow.Author.Needs.{needs}
 use Prim.Native.Nat.{_-_, _≤_}
-use Rattle.files.proofs.listing.chunk_lines.Statement.{statement}
-use Rattle.files.proofs.listing.chunk_lines.Tie as tie
+use Rattle.views.proofs.listing.chunk_lines.Statement.{statement}
+use Rattle.views.proofs.listing.chunk_lines.Tie as tie
 
 abbrev Inv-loop : tie.InvT-loop
 Inv-loop image g c i₀ i = i ≤ c
