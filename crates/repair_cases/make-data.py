@@ -13,20 +13,21 @@ HERE = os.path.dirname(os.path.abspath(__file__))
 LISTS = runpy.run_path(os.path.join(HERE, '..', 'list_cases', 'make-data.py'))
 X, NO_FILE, THIRD = LISTS['X'], LISTS['NO_FILE'], LISTS['THIRD']
 image, small, trailer = LISTS['image'], LISTS['small'], LISTS['trailer']
+image_2, small_2 = LISTS['image_2'], LISTS['small_2']
 
 
 # ---- request 3, read
 
 def repaired(content):
     """What is to be said of the bytes of a file, the number of a refusal or a list of chunks, and the bytes afterwards."""
-    number = 3 if len(content) > 38944 else LISTS['first_refusal'](content)
+    number = 3 if len(content) > LISTS['LARGEST_BYTES'] else LISTS['first_refusal'](content)
     if number in (1, 2, 3):
         return number, content
     p, c, m, n = LISTS['shape'](content)
-    words = list(struct.unpack(f'<{c + m * p}Q', content[:-32]))
-    named = {chunk: words[chunk] for chunk in range(c) if words[chunk] != X}
-    good = {chunk: k for chunk, k in named.items() if k < m and LISTS['good_map'](words[c + k * p:c + k * p + p], n)}
-    units = {chunk: [u for u in words[c + k * p:c + k * p + p] if u != X] for chunk, k in good.items()}
+    links, maps = LISTS['words_of'](content)
+    named = {chunk: k for chunk, k in enumerate(links) if k != X}
+    good = {chunk: k for chunk, k in named.items() if k < m and LISTS['good_map'](maps[k], p, n)}
+    units = {chunk: LISTS['units_of'](maps[k], p) for chunk, k in good.items()}
     unlinked = set(named) - set(good)
     for chunk in good:
         others = [other for other in good if other != chunk]
@@ -34,9 +35,8 @@ def repaired(content):
             unlinked.add(chunk)
         if len(set(units[chunk])) < len(units[chunk]):
             unlinked.add(chunk)
-    for chunk in unlinked:
-        words[chunk] = X
-    return sorted(unlinked), struct.pack(f'<{len(words)}Q', *words) + content[-32:]
+    entries = [X if chunk in unlinked else k for chunk, k in enumerate(links)]
+    return sorted(unlinked), struct.pack(f'<{c}Q', *entries) + content[8 * c:]
 
 
 # ---- images, made
@@ -51,6 +51,12 @@ def largest(links, maps):
     return image(16, 256, 288, 4608, {i: i for i in range(256)} | links, {i: range(16 * i, 16 * i + 16) for i in range(256)} | maps)
 
 
+def largest_2(links, maps):
+    """The same in edition 2; a map that is given has its size."""
+    raw = {i: [65536, *range(16 * i, 16 * i + 16)] for i in range(256)}
+    return image_2(16, 256, 288, 4608, {i: i for i in range(256)} | links, raw | maps)
+
+
 def apart(count):
     """Maps of chunks that share nothing: map i holds units 4i and 4i + 1."""
     return {i: [4 * i, 4 * i + 1] for i in range(count)}
@@ -58,6 +64,7 @@ def apart(count):
 
 DAMAGED = small({0: 2, 1: 5, 2: 0, 3: 0}, {0: [0, 1], 1: [2], 2: [3, 4]})
 RING = largest({}, {i: [*range(16 * i, 16 * i + 15), 16 * ((i + 1) % 256)] for i in range(256)})
+RING_2 = largest_2({}, {i: [65536, *range(16 * i, 16 * i + 15), 16 * ((i + 1) % 256)] for i in range(256)})
 
 # the chunks to unlink, or the number of the refusal, by hand; and the image
 CASES = {
@@ -119,10 +126,30 @@ CASES = {
     'n-above-pm': (3, image(4, 4, 5, 21, {0: 9})),
     'slack': (3, bytes(8) + DAMAGED),
     'bytes-38945': (3, b'\xff' + RING),
+    # edition 2, sound: a size is no claim
+    'e2-sound': ([], LISTS['THIRD_2']),
+    'e2-sizes-equal': ([], small_2({0: 0, 1: 1, 2: 2}, {0: [7, 5], 1: [7, 6], 2: [5, 7]})),
+    # bad links and maps, and sizes that do not fit the units
+    'e2-volume': ([1, 2, 3], small_2({0: 2, 1: 5, 2: 0, 3: 0}, {0: [6144, 0, 1], 1: [3072, 2], 2: [5120, 3, 4]})),
+    'e2-size-one-unit-less': ([2], small_2({0: 2, 2: 0}, {0: [2048, 0, 1], 2: [5120, 3, 4]})),
+    'e2-size-one-unit-more': ([0], small_2({0: 2, 2: 0}, {0: [6144, 0, 1], 2: [9216, 3, 4]})),
+    'e2-sizes-bad': ([0, 1, 2, 3], small_2({i: i for i in range(4)}, {0: [0, 0], 1: [X, 1], 2: [2**32 + 1, 2], 3: [16385, 3, 4, 5, 6]})),
+    'e2-map-of-none': ([0], small_2({0: 0, 1: 1}, {0: [0], 1: [1, 0]})),
+    'e2-size-bad-names-held': ([1], small_2({0: 0, 1: 1}, {0: [8192, 0, 1], 1: [8192, 0]})),
+    'e2-size-bad-of-two': ([0, 3], small_2({0: 1, 2: 0, 3: 1}, {0: [1, 6], 1: [1, 7, 8]})),
+    # shared maps and units, and units named twice
+    'e2-map-shared': ([0, 3], small_2({0: 0, 1: 1, 3: 0}, {0: [8192, 0, 1], 1: [8192, 2, 3]})),
+    'e2-unit-shared': ([0, 2], small_2({0: 0, 1: 2, 2: 1}, {0: [8192, 0, 1], 1: [4097, 2, 1], 2: [1, 3]})),
+    'e2-unit-twice': ([1], small_2({0: 1, 1: 0}, {0: [12288, 5, 6, 5], 1: [1, 7]})),
+    'e2-largest-ring': (list(range(256)), RING_2),
+    # refused
+    'e2-tag': (2, small_2({0: 9}, {}, tag=b'RMAQ')),
+    'e2-spare': (3, small_2({0: 9}, {}, spare=1)),
+    'e2-bytes-41257': (3, b'\xff' + RING_2),
 }
 
 # a second repair of each prints nothing
-AGAIN = ['volume', 'several-faults', 'unit-chain', 'largest-ring']
+AGAIN = ['volume', 'several-faults', 'unit-chain', 'largest-ring', 'e2-volume', 'e2-largest-ring']
 
 
 def said(answer):

@@ -1,4 +1,4 @@
 // Says whether the alarm of a volume sounds: `alarm_at IMAGE units COUNT | fraction DECIMAL`.
 fn main() {
-    files::commands::alarm_at();
+    views::commands::alarm_at();
 }

@@ -1,4 +1,4 @@
 // Prints what an image file holds: `list FILE`.
 fn main() {
-    files::commands::list();
+    views::commands::list();
 }

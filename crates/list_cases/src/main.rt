@@ -1,4 +1,4 @@
 // Prints what each of several image files holds: `list_cases FILE..`. Its stored run is the listing's table of cases.
 fn main() {
-    files::commands::list_all();
+    tables::list_all();
 }

@@ -1,4 +1,4 @@
 // Reports on the space of a volume: `report_on IMAGE`.
 fn main() {
-    files::commands::report_on();
+    views::commands::report_on();
 }
