@@ -1,5 +1,5 @@
-//! The C interface of the proved library, edition 1, and a thin safe wrapper
-//! for each of its functions.
+//! The C interface of the proved library, and a thin safe wrapper for each of
+//! its functions.
 //!
 //! A slice goes over as its pointer and its length. The wrappers answer the
 //! library's structs as they come, for tests to compare field by field.
@@ -31,11 +31,26 @@ pub struct CReport {
     pub saved_ratio: f64,
 }
 
+/// `sumbilak_shape_answer`.
+#[repr(C)]
+#[derive(Clone, Copy, Debug, PartialEq, Eq)]
+pub struct CShape {
+    pub number: u64,
+    pub place: u64,
+    pub second: u64,
+    pub edition: u64,
+    pub p: u64,
+    pub c: u64,
+    pub m: u64,
+    pub n: u64,
+    pub r: u64,
+}
+
 /// Words that `load` writes: P, C, M, N, 72 unit words, 5 map words.
 pub const LOAD_WORDS: usize = 81;
 
 mod sys {
-    use super::{CAnswer, CReport};
+    use super::{CAnswer, CReport, CShape};
 
     extern "C" {
         pub fn sumbilak_format(
@@ -46,6 +61,16 @@ mod sys {
             m: u64,
             n: u64,
         ) -> CAnswer;
+        pub fn sumbilak_format2(
+            image: *mut u8,
+            len: usize,
+            p: u64,
+            c: u64,
+            m: u64,
+            n: u64,
+            r: u64,
+        ) -> CAnswer;
+        pub fn sumbilak_shape(image: *const u8, len: usize) -> CShape;
         pub fn sumbilak_load(
             image: *const u8,
             len: usize,
@@ -68,6 +93,7 @@ mod sys {
             length: u64,
         ) -> CAnswer;
         pub fn sumbilak_held(image: *const u8, len: usize, chunk: u64) -> CAnswer;
+        pub fn sumbilak_stored_size(image: *const u8, len: usize, chunk: u64) -> CAnswer;
         pub fn sumbilak_plan_write(
             image: *const u8,
             len: usize,
@@ -120,6 +146,12 @@ mod sys {
         pub fn sumbilak_report(image: *const u8, len: usize) -> CReport;
         pub fn sumbilak_repair(image: *mut u8, len: usize, out: *mut u8, out_len: usize)
             -> CAnswer;
+        pub fn sumbilak_convert(
+            image: *const u8,
+            len: usize,
+            out: *mut u8,
+            out_len: usize,
+        ) -> CAnswer;
     }
 }
 
@@ -129,6 +161,14 @@ mod sys {
 
 pub fn format(image: &mut [u8], p: u64, c: u64, m: u64, n: u64) -> CAnswer {
     unsafe { sys::sumbilak_format(image.as_mut_ptr(), image.len(), p, c, m, n) }
+}
+
+pub fn format2(image: &mut [u8], p: u64, c: u64, m: u64, n: u64, r: u64) -> CAnswer {
+    unsafe { sys::sumbilak_format2(image.as_mut_ptr(), image.len(), p, c, m, n, r) }
+}
+
+pub fn shape(image: &[u8]) -> CShape {
+    unsafe { sys::sumbilak_shape(image.as_ptr(), image.len()) }
 }
 
 /// `out` is counted in words.
@@ -155,6 +195,10 @@ pub fn access(image: &[u8], write: bool, offset: u64, length: u64) -> CAnswer {
 
 pub fn held(image: &[u8], chunk: u64) -> CAnswer {
     unsafe { sys::sumbilak_held(image.as_ptr(), image.len(), chunk) }
+}
+
+pub fn stored_size(image: &[u8], chunk: u64) -> CAnswer {
+    unsafe { sys::sumbilak_stored_size(image.as_ptr(), image.len(), chunk) }
 }
 
 pub fn plan_write(image: &[u8], chunk: u64, size: u64, out: &mut [u8]) -> CAnswer {
@@ -248,4 +292,8 @@ pub fn report(image: &[u8]) -> CReport {
 
 pub fn repair(image: &mut [u8], out: &mut [u8]) -> CAnswer {
     unsafe { sys::sumbilak_repair(image.as_mut_ptr(), image.len(), out.as_mut_ptr(), out.len()) }
+}
+
+pub fn convert(image: &[u8], out: &mut [u8]) -> CAnswer {
+    unsafe { sys::sumbilak_convert(image.as_ptr(), image.len(), out.as_mut_ptr(), out.len()) }
 }

@@ -1,20 +1,22 @@
 //! A power-cut simulator over the proved library.
 //!
-//! The library formats, repairs, plans, checks and carries out; the cut rule, the
-//! landing of single words, the units' contents and the ledger are the
+//! The library formats, repairs, converts, plans, checks and carries out; the cut
+//! rule, the landing of single words, the units' contents and the ledger are the
 //! simulator's own, from 01. After every event the image found has to load
 //! and to be sound, no unit has two owners, every chunk holds what the ledger
-//! gives it, and the chunk in flight holds all its new pieces or all its old
-//! ones.
+//! gives it and answers the size of the write that gave it, and the chunk in
+//! flight holds all its new pieces or all its old ones.
 //!
-//! Lists of events are random on many volumes and exhaustive on small ones, and
-//! start from format or from a repair. Rules that are wrong on purpose show that
-//! the simulator can fail.
+//! Lists of events are random on many volumes and exhaustive on small ones, in
+//! both editions, and start from format, from a repair or from a conversion.
+//! Rules that are wrong on purpose show that the simulator can fail.
 //!
 //! `SUMBILAK_LISTS` runs so many times as many random lists, `SUMBILAK_SEED`
 //! changes their seed, `SUMBILAK_STORIES` prints the lists that wrong rules
 //! were noticed in. A build with debug assertions runs less.
 
+#[path = "power_cuts/converted.rs"]
+mod converted;
 #[path = "power_cuts/event.rs"]
 mod event;
 #[path = "power_cuts/every_plan.rs"]
@@ -51,7 +53,9 @@ use lists::Case;
 use rules::{Library, Rules};
 use simulate::{Simulator, Violation};
 use sumbilak_reference::ffi::{self, LOAD_WORDS};
-use sumbilak_reference::inputs::{self, encode, put_entry, put_word, Fields, Shape, FENCE, X32};
+use sumbilak_reference::inputs::{
+    self, encode, put_entry, put_units, put_word, Edition, Fields, Shape, FENCE, X32,
+};
 use sumbilak_reference::rng::{mix, Rng};
 use sumbilak_reference::settings::number;
 use volume::Volume;
@@ -73,12 +77,21 @@ fn times(lists: u64) -> u64 {
 }
 
 const fn shape(p: u64, c: u64, m: u64, n: u64) -> Shape {
-    Shape { p, c, m, n }
+    Shape::one(p, c, m, n)
+}
+
+/// A geometry of edition 2.
+const fn two(p: u64, c: u64, m: u64, n: u64) -> Shape {
+    shape(p, c, m, n).in_edition(Edition::Two)
 }
 
 fn name(shape: &Shape) -> String {
-    let Shape { p, c, m, n } = shape;
-    format!("P={p} C={c} M={m} N={n}")
+    let Shape { p, c, m, n, .. } = shape;
+    let edition = match shape.edition {
+        Edition::One => "",
+        Edition::Two => ", edition 2",
+    };
+    format!("P={p} C={c} M={m} N={n}{edition}")
 }
 
 /// Every violation counts.
@@ -111,6 +124,14 @@ const VOLUMES: [(Shape, u64); 22] = [
     (shape(16, 256, 288, 4096), 20),
     (shape(16, 256, 288, 4608), 40),
 ];
+
+/// The same in both editions, in edition 2 with half as many lists.
+fn volumes() -> impl Iterator<Item = (Shape, u64)> {
+    VOLUMES.into_iter().flat_map(|(shape, lists)| {
+        let half = lists.div_ceil(2);
+        [(shape, lists), (shape.in_edition(Edition::Two), half)]
+    })
+}
 
 #[test]
 fn random_event_lists() {
@@ -153,7 +174,7 @@ fn random_event_lists() {
         ));
     };
 
-    for (at, (shape, lists)) in (0..).zip(VOLUMES) {
+    for (at, (shape, lists)) in (0..).zip(volumes()) {
         let mut figures = Figures::default();
         let seed = mix(seed ^ at);
         let case = lists::run(&Library, shape, times(lists), seed, &any, &mut figures);
@@ -216,7 +237,7 @@ const fn lists_to(length: usize, shape: Shape) -> Scope {
 }
 
 /// The volumes that are explored, and how far.
-const SCOPES: [Scope; 21] = [
+const SCOPES: [Scope; 31] = [
     lists_to(3, shape(2, 1, 2, 2)),
     lists_to(3, shape(2, 1, 2, 3)),
     lists_to(3, shape(2, 1, 2, 4)),
@@ -230,6 +251,21 @@ const SCOPES: [Scope; 21] = [
         plans: Plans::Edits,
         depth: Some(1),
     },
+    Scope {
+        shape: VOLUME_64K.in_edition(Edition::Two),
+        start: Start::Format(&WORKED_THROUGH),
+        plans: Plans::Edits,
+        depth: Some(1),
+    },
+    lists_to(3, two(2, 1, 2, 2)),
+    lists_to(2, two(2, 2, 3, 4)),
+    lists_to(2, two(3, 1, 2, 4)),
+    closure(two(2, 1, 2, 2), Plans::Edits),
+    closure(two(2, 1, 2, 2), Plans::EveryChoice),
+    closure(two(2, 1, 2, 3), Plans::EveryChoice),
+    closure(two(2, 1, 3, 2), Plans::Two),
+    closure(two(2, 2, 3, 2), Plans::Two),
+    closure(two(2, 1, 2, 4), Plans::Two),
     closure(shape(2, 1, 2, 2), Plans::Edits),
     closure(shape(2, 1, 2, 3), Plans::Edits),
     closure(shape(2, 2, 3, 2), Plans::Edits),
@@ -318,24 +354,36 @@ fn orders(steps: &[Fields]) -> Vec<Vec<Fields>> {
 }
 
 /// The legal plans of exactly so many steps on the smallest volume, for a
-/// write of one unit or a discard of chunk 0. Mapped, it is on unit 0 and
-/// map 0.
+/// write of 4,096 bytes or a discard of chunk 0. Mapped, it is on unit 0 and
+/// map 0. In edition 2, where plans are longer, only those with this end.
 ///
-/// A write takes six steps at least, and with six there is room for no more
-/// fences: DATA and the two MAP steps in any order, FENCE, LINK, FENCE. A
-/// discard has fences before and after LINK, at least one after.
-fn legal_plans(write: bool, mapped: bool, length: usize) -> BTreeSet<Vec<u8>> {
+/// A write takes six steps at least, in edition 2 seven, and with so many there
+/// is room for no more fences: DATA and the MAP steps in any order, FENCE, LINK,
+/// FENCE. A discard has fences before and after LINK, at least one after.
+fn legal_plans(
+    edition: Edition,
+    write: bool,
+    mapped: bool,
+    length: usize,
+    end: &[Fields],
+) -> BTreeSet<Vec<u8>> {
     let mut legal = BTreeSet::new();
-    if write && length == 6 {
+    let size_words = edition.number() as u32 - 1;
+    if write && length == 6 + size_words as usize {
         let free = if mapped { 1..2 } else { 0..2 };
         for (unit, map) in free
             .clone()
             .flat_map(|unit| free.clone().map(move |map| (unit, map)))
         {
-            let words = [[MAP, map, 0, unit], [MAP, map, 1, X32]];
-            for mut steps in orders(&[[DATA, unit, 0, 0], words[0], words[1]]) {
+            let mut stores = vec![[DATA, unit, 0, 0]];
+            stores.extend((0..size_words).map(|word| [MAP, map, word, 4096]));
+            stores.push([MAP, map, size_words, unit]);
+            stores.push([MAP, map, size_words + 1, X32]);
+            for mut steps in orders(&stores) {
                 steps.extend([FENCE, [LINK, 0, 0, map], FENCE]);
-                legal.insert(encode(&steps));
+                if steps.ends_with(end) {
+                    legal.insert(encode(&steps));
+                }
             }
         }
     } else if !write && mapped {
@@ -352,39 +400,64 @@ fn legal_plans(write: bool, mapped: bool, length: usize) -> BTreeSet<Vec<u8>> {
 
 /// Of all plans that a few steps can make on the smallest volume the checker
 /// accepts exactly the legal ones. All plans of six steps are 64 million and
-/// only tried where more lists are asked for; else those that end in FENCE.
+/// only tried where more lists are asked for; else those that end in FENCE. In
+/// edition 2 plans of four steps are tried before FENCE, LINK, FENCE.
 #[test]
 fn of_every_short_plan_only_the_legal_ones_pass() {
     let begun = Instant::now();
-    let shape = shape(2, 1, 2, 2);
+    let mut rows = vec![row("plans", &["steps", "tried", "accepted", "legal"])];
+    let mut all_good = true;
+    for edition in Edition::ALL {
+        all_good &= every_short_plan(edition, &mut rows);
+    }
+    let title = format!("Every plan of a few steps, {:.1?}", begun.elapsed());
+    print(&table(&title, &rows));
+    assert!(all_good, "the checker accepts exactly the legal plans");
+}
+
+fn every_short_plan(edition: Edition, rows: &mut Vec<Vec<String>>) -> bool {
+    let shape = shape(2, 1, 2, 2).in_edition(edition);
     let fresh = Volume::formatted(&shape, || 0).image;
     let mut mapped = fresh.clone();
     put_entry(&mut mapped, 0, 0);
-    put_word(&mut mapped, shape.word_at(0, 0), 0);
+    put_units(&shape, &mut mapped, 0, &[0]);
 
-    let most = if cfg!(debug_assertions) { 4 } else { 5 };
+    let most = match edition {
+        Edition::Two => 3,
+        _ if cfg!(debug_assertions) => 4,
+        _ => 5,
+    };
     let all_of_six = number("SUMBILAK_LISTS").is_some_and(|times| times > 1);
-    let mut rows = vec![row("plans", &["steps", "tried", "accepted", "legal"])];
+    let ends = [0, 1].map(|map| [FENCE, [LINK, 0, 0, map], FENCE]);
     let mut all_good = true;
     for (image, is_mapped) in [(&mapped, true), (&fresh, false)] {
         for size in [Some(4096), None] {
             let request = Request { chunk: 0, size };
             let mut runs: Vec<(usize, &[Fields])> = (0..=most).map(|at| (at, &[][..])).collect();
-            if all_of_six {
-                runs.push((6, &[]));
-            } else if size.is_some() {
-                runs.push((most, &[FENCE]));
+            match edition {
+                Edition::One if all_of_six => runs.push((6, &[])),
+                Edition::One if size.is_some() => runs.push((most, &[FENCE])),
+                Edition::Two if size.is_some() => runs.extend([(4, &ends[0][..]), (4, &ends[1])]),
+                _ => {}
             }
             for (length, end) in runs {
                 let steps = length + end.len();
-                let legal = legal_plans(size.is_some(), is_mapped, steps);
+                let legal = legal_plans(edition, size.is_some(), is_mapped, steps, end);
                 let (tried, accepted) = every_plan::accepted(&shape, image, request, length, end);
                 all_good &= accepted == legal;
                 let name = format!(
-                    "{} of {} chunk{}",
+                    "{} of {} chunk{}{}",
                     if size.is_some() { "write" } else { "discard" },
                     if is_mapped { "a mapped" } else { "an unmapped" },
-                    if end.is_empty() { "" } else { ", FENCE last" },
+                    match end.len() {
+                        0 => "",
+                        1 => ", FENCE last",
+                        _ => ", FENCE, LINK, FENCE last",
+                    },
+                    match edition {
+                        Edition::One => "",
+                        Edition::Two => ", edition 2",
+                    },
                 );
                 let figures = [
                     steps as u64,
@@ -396,9 +469,7 @@ fn of_every_short_plan_only_the_legal_ones_pass() {
             }
         }
     }
-    let title = format!("Every plan of a few steps, {:.1?}", begun.elapsed());
-    print(&table(&title, &rows));
-    assert!(all_good, "the checker accepts exactly the legal plans");
+    all_good
 }
 
 /// The 64 KB volume.
@@ -410,15 +481,17 @@ const CHANCES: u64 = 3000;
 /// Runs random lists under a wrong rule until a violation that `tells` picks is
 /// seen. The right rules pass the same lists.
 fn notice_at_random<R: Rules>(
+    edition: Edition,
     rule: &str,
     rules: &R,
     tells: &dyn Fn(&Violation) -> bool,
 ) -> (Figures, Case) {
     let mut figures = Figures::default();
-    let case = lists::run(rules, VOLUME_64K, CHANCES, seed(), tells, &mut figures);
+    let shape = VOLUME_64K.in_edition(edition);
+    let case = lists::run(rules, shape, CHANCES, seed(), tells, &mut figures);
     let case = case.unwrap_or_else(|| panic!("{rule}: not noticed"));
     let control = &mut Figures::default();
-    let right = lists::run(&Library, VOLUME_64K, figures.lists, seed(), &any, control);
+    let right = lists::run(&Library, shape, figures.lists, seed(), &any, control);
     assert!(right.is_none(), "{rule}: the right rules fail as well");
     (figures, case)
 }
@@ -429,6 +502,11 @@ fn notice_at_random<R: Rules>(
 /// The violations are those of the volume: answers are not compared with the
 /// right ones here. With `SUMBILAK_STORIES` set the lists are printed.
 fn notice<R: Rules>(rule: &str, rules: &R, violations: &[&str]) {
+    notice_in(Edition::One, rule, rules, violations);
+}
+
+/// The same in this edition.
+fn notice_in<R: Rules>(edition: Edition, rule: &str, rules: &R, violations: &[&str]) {
     let mut rows = vec![row(
         "violation",
         &[
@@ -443,8 +521,8 @@ fn notice<R: Rules>(rule: &str, rules: &R, violations: &[&str]) {
     for &violation in violations {
         let tells = |seen: &Violation| seen.name() == violation;
         let rule = format!("{rule}, {violation}");
-        let (figures, case) = notice_at_random(&rule, rules, &tells);
-        let scope = closure(shape(2, 2, 3, 4), Plans::Edits);
+        let (figures, case) = notice_at_random(edition, &rule, rules, &tells);
+        let scope = closure(shape(2, 2, 3, 4).in_edition(edition), Plans::Edits);
         let (tally, found) = explore(rules, &scope, &tells);
         let found = found.unwrap_or_else(|| panic!("{rule}: not noticed exhaustively"));
         rows.push(row(
@@ -459,7 +537,11 @@ fn notice<R: Rules>(rule: &str, rules: &R, violations: &[&str]) {
         ));
         stories += &format!("\n{case}\n{found}");
     }
-    print(&table(&format!("Noticed: {rule}"), &rows));
+    let edition = match edition {
+        Edition::One => "",
+        Edition::Two => ", edition 2",
+    };
+    print(&table(&format!("Noticed: {rule}{edition}"), &rows));
     if env::var_os("SUMBILAK_STORIES").is_some() {
         print(&stories);
     }
@@ -472,6 +554,8 @@ const LOAD: &str = "does not load";
 const NO_MAP: &str = "a map that is not there";
 const TWO_OWNERS: &str = "unit with two owners";
 const CARRIER: &str = "carrying out";
+const SIZE: &str = "another stored size";
+const SIZE_FLAW: &str = "a size of other units";
 
 /// "LINK before the fence: a cut shows a map that isn't there." (01)
 #[test]
@@ -482,6 +566,40 @@ fn a_checker_without_the_fence_before_link_is_caught() {
         &rules,
         &[NO_MAP, NEITHER, LEDGER, LOAD],
     );
+    // In edition 2 the size may be what is not there.
+    notice_in(
+        Edition::Two,
+        "LINK before the fence",
+        &rules,
+        &[NO_MAP, SIZE_FLAW, SIZE, NEITHER, LOAD],
+    );
+}
+
+/// "word 0 holds [..] the request's size (rule 3)" (02, request 4): a checker
+/// that lets any size pass makes maps that do not load, or chunks whose size is
+/// not the one they were written with.
+#[test]
+fn a_checker_that_lets_a_wrong_size_pass_is_caught() {
+    let rules = wrong::Checker(wrong::with_any_size);
+    let kinds = [SIZE, SIZE_FLAW, LOAD];
+    notice_in(Edition::Two, "any size passes", &rules, &kinds);
+    // "also where it takes as many units" (Decision 66).
+    let rules = wrong::Checker(wrong::with_rounded_sizes);
+    notice_in(Edition::Two, "sizes compared in units", &rules, &[SIZE]);
+}
+
+/// "P+1 words for each map: first the compressed size, then the units" (02,
+/// request 4).
+#[test]
+fn word_0_taken_for_a_unit_is_caught() {
+    let rules = wrong::Checker(wrong::with_word_0_a_unit);
+    let kinds = [LEDGER, SIZE, LOAD];
+    notice_in(Edition::Two, "units from word 0 on", &rules, &kinds);
+    // A size that is below N by chance, which small volumes' requests never are.
+    for violation in ["free set", "planner"] {
+        let tells = |seen: &Violation| seen.name() == violation;
+        notice_at_random(Edition::Two, violation, &wrong::SizeAsUnit, &tells);
+    }
 }
 
 /// "No last FENCE": a plan is finished, and yet its LINK has not landed.
@@ -495,8 +613,13 @@ fn a_checker_without_the_last_fence_is_caught() {
 /// back." (01)
 #[test]
 fn an_old_link_that_comes_back_is_caught() {
-    let right = old_link::run(true);
-    let wrong = old_link::run(false);
+    old_link_in(Edition::One);
+    old_link_in(Edition::Two);
+}
+
+fn old_link_in(edition: Edition) {
+    let right = old_link::run(edition, true);
+    let wrong = old_link::run(edition, false);
     let cells = |cuts: old_link::Cuts| [cuts.tried, cuts.lost, cuts.lies];
     let rows = [
         row(
@@ -549,7 +672,7 @@ fn a_free_set_from_all_maps_is_caught() {
     );
     let no_room =
         |seen: &Violation| matches!(seen, Violation::Planner { answer, .. } if answer.number == 9);
-    notice_at_random("no room", &wrong::AllMaps, &no_room);
+    notice_at_random(Edition::One, "no room", &wrong::AllMaps, &no_room);
 }
 
 /// "On a double claim, letting the later chunk win." (01)
@@ -563,8 +686,9 @@ fn a_later_chunk_that_wins_a_double_claim_is_caught() {
     let mut volume = Volume::formatted(&VOLUME_64K, || 0);
     volume.units[7] = 77;
     put_entry(&mut volume.image, 0, 0);
-    put_word(&mut volume.image, VOLUME_64K.word_at(0, 0), 7);
+    put_word(&mut volume.image, VOLUME_64K.unit_at(0, 0), 7);
     volume.ledger[0] = vec![77];
+    volume.sizes[0] = 4096;
     let mut violations = Vec::new();
     simulator.verify(&volume.image, &mut violations);
     simulator.verify_pieces(&volume, &mut violations);
@@ -583,7 +707,7 @@ fn a_later_chunk_that_wins_a_double_claim_is_caught() {
     assert_eq!(violations, [], "it loads again");
     simulator.verify_pieces(&volume, &mut violations);
     let lies: Vec<&str> = violations.iter().map(Violation::name).collect();
-    assert_eq!(lies, [LEDGER, LEDGER]);
+    assert_eq!(lies, [SIZE, LEDGER, SIZE, LEDGER]);
 }
 
 /// "Everything earlier is durable before anything later starts." (01)
@@ -598,6 +722,14 @@ fn a_landing_that_ignores_fences_is_caught() {
 fn words_that_land_by_half_are_caught() {
     let kinds = ["bad link", NEITHER, LEDGER, LOAD];
     notice("words that land by half", &wrong::TornWords, &kinds);
+    // A size by half is 2^32 too small or too large.
+    let kinds = [LEDGER, LOAD];
+    notice_in(
+        Edition::Two,
+        "words that land by half",
+        &wrong::TornWords,
+        &kinds,
+    );
 }
 
 /// "the trailer's bytes never change" (Decision 24), and "where all n have
@@ -636,5 +768,6 @@ fn wrong_carriers_are_caught() {
         &[CARRIER],
     );
     let changed = |seen: &Violation| *seen == Violation::RefusedChanged;
-    notice_at_random("refused", &wrong::Carrier::StoresFirst, &changed);
+    let rules = &wrong::Carrier::StoresFirst;
+    notice_at_random(Edition::One, "refused", rules, &changed);
 }

@@ -80,12 +80,7 @@ impl Side {
 
 /// The largest volume but for N: its chunks hold 4,096 units at the most, so with
 /// 4,160 units in 65 words all but those of the last word can be held.
-const SHAPE: Shape = Shape {
-    p: 16,
-    c: 256,
-    m: 288,
-    n: 4160,
-};
+const SHAPE: Shape = Shape::one(16, 256, 288, 4160);
 
 /// The words of a set of units, of which a volume can have 4,608.
 const SET_WORDS: usize = 72;

@@ -12,13 +12,13 @@ use std::hint::black_box;
 use std::time::Instant;
 
 use sumbilak_reference::ffi::{self, CAnswer, CReport, LOAD_WORDS};
-use sumbilak_reference::inputs::{entry, free_units, mapped, put_word, word, Shape};
+use sumbilak_reference::inputs::{
+    entry, free_units, fresh, mapped, put_word, word, Edition, Shape, LONGEST_PLAN as PLAN,
+};
 use sumbilak_reference::model::{self, Answer, Report};
 use sumbilak_reference::rng::Rng;
 use sumbilak_reference::timing::{self, least, median, BATCH, BATCHES, TURNS};
 
-/// The longest plan of the planner: "at most 35" steps of 16 bytes (01).
-const PLAN: usize = 35 * 16;
 /// The longest list of a repair: 256 chunks, "a u32 each" (02, request 3).
 const LIST: usize = 256 * 4;
 
@@ -30,6 +30,8 @@ struct Input {
     /// The planner's plan for that write.
     plan: Vec<u8>,
     steps: u64,
+    /// The length of the image in edition 2, for a converter.
+    converted: usize,
 }
 
 /// What a call answers and writes.
@@ -41,6 +43,8 @@ struct Output {
     plan: [u8; PLAN],
     list: [u8; LIST],
     image: Vec<u8>,
+    /// What a converter writes; empty elsewhere.
+    converted: Vec<u8>,
 }
 
 const NOTHING: CAnswer = CAnswer {
@@ -67,6 +71,7 @@ impl Output {
             plan: [0; PLAN],
             list: [0; LIST],
             image: input.image.clone(),
+            converted: vec![0; input.converted],
         }
     }
 }
@@ -83,7 +88,7 @@ struct Call {
     copies: bool,
 }
 
-const CALLS: [Call; 6] = [
+const CALLS: [Call; 7] = [
     Call {
         name: "load",
         library: |input, out| out.answer = ffi::load(&input.image, &mut out.words),
@@ -156,6 +161,14 @@ const CALLS: [Call; 6] = [
         model: |input, out| out.report = by_model::report(model::report(&input.image)),
         copies: false,
     },
+    Call {
+        name: "stored_size",
+        library: |input, out| out.answer = ffi::stored_size(&input.image, input.chunk),
+        model: |input, out| {
+            out.answer = by_model::answer(model::stored_size(&input.image, input.chunk))
+        },
+        copies: false,
+    },
 ];
 
 /// Only on volumes of its own: most calls want a sound image.
@@ -170,6 +183,16 @@ const REPAIR: Call = Call {
         out.answer = by_model::answer(model::repair(&mut out.image, &mut out.list))
     },
     copies: true,
+};
+
+/// Only on images of edition 1.
+const CONVERT: Call = Call {
+    name: "convert",
+    library: |input, out| out.answer = ffi::convert(&input.image, &mut out.converted),
+    model: |input, out| {
+        out.answer = by_model::answer(model::convert(&input.image, &mut out.converted))
+    },
+    copies: false,
 };
 
 fn copy(input: &Input, out: &mut Output) {
@@ -235,9 +258,13 @@ fn write(image: &mut [u8], chunk: u64, k: u64) {
 /// A volume with so many units held: chunks in random order with at least half
 /// their units, then rewritten at random, so that units and maps lie about.
 fn volume(rng: &mut Rng, shape: &Shape, held: u64) -> Vec<u8> {
-    let Shape { p, c, m, n } = *shape;
+    let Shape { p, c, m, n, .. } = *shape;
     let mut image = vec![0; shape.image_len()];
-    assert_eq!(ffi::format(&mut image, p, c, m, n).number, 0);
+    let formatted = match shape.edition {
+        Edition::One => ffi::format(&mut image, p, c, m, n),
+        Edition::Two => ffi::format2(&mut image, p, c, m, n, 0),
+    };
+    assert_eq!(formatted.number, 0);
     let mut chunks: Vec<u64> = (0..c).collect();
     rng.shuffle(&mut chunks);
     let mut units = vec![0; c as usize];
@@ -279,6 +306,7 @@ fn input(shape: &Shape, image: Vec<u8>) -> Input {
         size,
         plan: plan[..16 * planned.value as usize].to_vec(),
         steps: planned.value,
+        converted: 0,
     }
 }
 
@@ -286,21 +314,30 @@ fn input(shape: &Shape, image: Vec<u8>) -> Input {
 /// chunks must be mapped, and to two units at least.
 fn clashing(shape: &Shape, sound: &[u8]) -> Input {
     let mut image = sound.to_vec();
-    let word_at = |chunk: u64, at: u64| shape.word_at(entry(sound, chunk), at);
+    let word_at = |chunk: u64, at: u64| shape.unit_at(entry(sound, chunk), at);
     for chunk in 0..shape.c {
         let next = word_at((chunk + 1) % shape.c, 0);
         put_word(&mut image, word_at(chunk, 1), word(sound, next));
     }
-    to_repair(image)
+    only(image)
 }
 
-fn to_repair(image: Vec<u8>) -> Input {
+/// An image and nothing else.
+fn only(image: Vec<u8>) -> Input {
     Input {
         image,
         chunk: 0,
         size: 0,
         plan: Vec::new(),
         steps: 0,
+        converted: 0,
+    }
+}
+
+fn to_convert(shape: &Shape, image: Vec<u8>) -> Input {
+    Input {
+        converted: shape.in_edition(Edition::Two).image_len(),
+        ..only(image)
     }
 }
 
@@ -315,9 +352,17 @@ fn batch(run: Run, input: &Input, out: &mut Output, repeats: u32) -> f64 {
     timing::batch(repeats, || once(run, input, out))
 }
 
+/// A volume to measure, in either edition.
+struct Measured {
+    name: String,
+    edition: Edition,
+    input: Input,
+}
+
 /// One line of the table.
 struct Row<'a> {
     volume: &'a str,
+    edition: Edition,
     call: &'a Call,
     input: &'a Input,
     output: Output,
@@ -327,7 +372,12 @@ struct Row<'a> {
 }
 
 impl<'a> Row<'a> {
-    fn new(volume: &'a str, input: &'a Input, call: &'a Call) -> Self {
+    fn new(measured: &'a Measured, call: &'a Call) -> Self {
+        let Measured {
+            name: volume,
+            edition,
+            input,
+        } = measured;
         let mut output = Output::new(input);
         let mut other = output.clone();
         (call.library)(input, &mut output);
@@ -338,6 +388,7 @@ impl<'a> Row<'a> {
         let repeats = timing::repeats(|| once(call.library, input, &mut output));
         Row {
             volume,
+            edition: *edition,
             call,
             input,
             output,
@@ -381,58 +432,104 @@ fn geometric_mean(ratios: impl Iterator<Item = f64>) -> f64 {
     (logs.iter().sum::<f64>() / logs.len() as f64).exp()
 }
 
+/// The ratio of two rows of the library, edition 2 over edition 1.
+fn print_editions(rows: &[Row]) {
+    println!("\n| volume | call | edition 1 ns | edition 2 ns | ratio | model's ratio |");
+    println!("|---|---|---:|---:|---:|---:|");
+    for one in rows.iter().filter(|row| row.edition == Edition::One) {
+        let same = |row: &&Row| {
+            row.edition == Edition::Two
+                && row.volume == one.volume
+                && row.call.name == one.call.name
+        };
+        let Some(two) = rows.iter().find(same) else {
+            continue;
+        };
+        let ([a, model_a], [b, model_b]) = (one.figures(least), two.figures(least));
+        println!(
+            "| {} | {} | {a:.1} | {b:.1} | {:.2} | {:.2} |",
+            one.volume,
+            one.call.name,
+            b / a,
+            model_b / model_a
+        );
+    }
+}
+
 fn main() {
     let begun = Instant::now();
-    let shape = |p, c, m, n| Shape { p, c, m, n };
+    let shape = Shape::one;
     let rng = &mut Rng::new(1);
-    let volumes: Vec<(String, Input)> = [
+    let mut volumes: Vec<Measured> = Vec::new();
+    for (name, shape, held) in [
         ("smallest", shape(2, 1, 2, 2), 1),
-        ("224 bytes", shape(4, 4, 5, 20), 10),
+        ("worked example", shape(4, 4, 5, 20), 10),
         ("largest, half full", shape(16, 256, 288, 4608), 2304),
         // 256 chunks of 16 units hold no more than 4,096.
         ("largest, nearly full", shape(16, 256, 288, 4608), 4088),
-    ]
-    .into_iter()
-    .map(|(name, shape, held)| {
-        let image = volume(rng, &shape, held);
-        let free = free_units(&shape, &image).len();
-        let name = format!("{name} ({held} held, {free} free)");
-        (name, input(&shape, image))
-    })
-    .collect();
+    ] {
+        // Both editions from the same draws: the same chunks, units and maps.
+        let seed = rng.next_u64();
+        for edition in Edition::ALL {
+            let shape = shape.in_edition(edition);
+            let image = volume(&mut Rng::new(seed), &shape, held);
+            let free = free_units(&shape, &image).len();
+            volumes.push(Measured {
+                name: format!("{name} ({held} held, {free} free)"),
+                edition,
+                input: input(&shape, image),
+            });
+        }
+    }
 
-    let largest = shape(16, 256, 288, 4608);
-    let sound = volume(rng, &largest, 4088);
-    let repairs = [
-        ("largest, every chunk clashing", clashing(&largest, &sound)),
-        ("largest, sound", to_repair(sound)),
-    ];
+    let mut repairs: Vec<Measured> = Vec::new();
+    let mut conversions: Vec<Measured> = Vec::new();
+    let seed = rng.next_u64();
+    for edition in Edition::ALL {
+        let largest = shape(16, 256, 288, 4608).in_edition(edition);
+        let sound = volume(&mut Rng::new(seed), &largest, 4088);
+        let put = |to: &mut Vec<Measured>, name: &str, input: Input| {
+            to.push(Measured {
+                name: name.to_string(),
+                edition,
+                input,
+            });
+        };
+        let clashing = clashing(&largest, &sound);
+        put(&mut repairs, "largest, every chunk clashing", clashing);
+        put(&mut repairs, "largest, sound", only(sound.clone()));
+        if edition == Edition::One {
+            let nearly_full = to_convert(&largest, sound);
+            put(&mut conversions, "largest, nearly full", nearly_full);
+            let fresh = to_convert(&largest, fresh(&largest));
+            put(&mut conversions, "largest, fresh", fresh);
+        }
+    }
 
-    let mut rows: Vec<Row> = volumes
-        .iter()
-        .flat_map(|(name, input)| CALLS.iter().map(|call| Row::new(name, input, call)))
-        .collect();
-    rows.extend(
-        repairs
-            .iter()
-            .map(|(name, input)| Row::new(name, input, &REPAIR)),
-    );
+    let mut rows: Vec<Row> = Vec::new();
+    for volume in &volumes {
+        rows.extend(CALLS.iter().map(|call| Row::new(volume, call)));
+    }
+    rows.extend(repairs.iter().map(|volume| Row::new(volume, &REPAIR)));
+    rows.extend(conversions.iter().map(|volume| Row::new(volume, &CONVERT)));
     for _ in 0..TURNS {
         rows.iter_mut().for_each(Row::turn);
     }
 
-    println!("| volume | call | library ns | model ns | ratio | ratio of medians |");
-    println!("|---|---|---:|---:|---:|---:|");
+    println!("| volume | edition | call | library ns | model ns | ratio | ratio of medians |");
+    println!("|---|---:|---|---:|---:|---:|---:|");
     for row in &rows {
         let [library, model] = row.figures(least);
         println!(
-            "| {} | {} | {library:.1} | {model:.1} | {:.2} | {:.2} |",
+            "| {} | {} | {} | {library:.1} | {model:.1} | {:.2} | {:.2} |",
             row.volume,
+            row.edition.number(),
             row.call.name,
             row.ratio(least),
             row.ratio(median)
         );
     }
+    print_editions(&rows);
 
     println!("\n| geometric mean of the ratios | least | median |");
     println!("|---|---:|---:|");
@@ -443,11 +540,16 @@ fn main() {
         };
         println!("| {name} | {:.2} | {:.2} |", mean(least), mean(median));
     };
-    for (name, _) in &volumes {
-        print_mean(name, &|row| row.volume == name);
+    for Measured { name, edition, .. } in &volumes {
+        let title = format!("{name}, edition {}", edition.number());
+        print_mean(&title, &|row| row.volume == name && row.edition == *edition);
     }
-    for call in CALLS.iter().chain([&REPAIR]) {
+    for call in CALLS.iter().chain([&REPAIR, &CONVERT]) {
         print_mean(call.name, &|row| row.call.name == call.name);
+    }
+    for edition in Edition::ALL {
+        let title = format!("edition {}", edition.number());
+        print_mean(&title, &|row| row.edition == edition);
     }
     print_mean("all", &|_| true);
 

@@ -1,5 +1,9 @@
-//! The four numbers of a volume, their limits, and the trailer that holds
-//! them.
+//! The edition and the four numbers of a volume, their limits, and the
+//! trailer that holds them.
+//!
+//! What the two editions differ in is here: the version, the trailer's length,
+//! and how many words of a map stand before its units. Everything else asks
+//! these functions and is the same for both.
 
 use super::refusals::{FOREIGN, GEOMETRY, SHORT};
 use super::{Answer, Refusal};
@@ -8,10 +12,17 @@ use super::{Answer, Refusal};
 pub const UNIT: u64 = 4096;
 /// "P units make a chunk, 2 to 16." (01)
 pub const MAX_UNITS_PER_CHUNK: usize = 16;
+/// The words of the longest map: edition 2 has "P+1 words for each map" (02,
+/// request 4).
+pub(crate) const MAX_MAP_WORDS: usize = MAX_UNITS_PER_CHUNK + 1;
 /// "M chunk maps, C+1 to C+32" with C at most 256 (01).
 pub const MAX_MAPS: usize = 256 + 32;
-/// 8·256 + 8·288·16 + 32, "longer than any image" from there on (01).
+/// 8·256 + 8·288·16 + 32, "longer than any image" of edition 1 from there on
+/// (01).
 pub const MAX_IMAGE_LEN: usize = 38_944;
+/// 8·256 + 8·288·17 + 40: "Every program's file limit becomes 41,256." (02,
+/// request 4)
+pub const MAX_IMAGE2_LEN: usize = 41_256;
 
 /// Words of the free-unit set: "72 words of 64 bits, one bit a unit" (01).
 pub(crate) const UNIT_WORDS: usize = 72;
@@ -22,15 +33,85 @@ pub(crate) const CHUNK_WORDS: usize = 4;
 
 /// Bytes of a word of the logical map or of a chunk map.
 pub(crate) const WORD: usize = 8;
-const TRAILER: usize = 32;
 /// "The trailer begins with the four bytes 52 4D 41 50" (01).
 const TAG: [u8; 4] = *b"RMAP";
-const VERSION: u16 = 1;
+/// Bytes of the fields that both editions' trailers begin with.
+const FIELDS: usize = 32;
+
+/// Which of the two layouts an image has.
+#[derive(Clone, Copy, Debug, PartialEq, Eq)]
+pub enum Edition {
+    One,
+    Two,
+}
+
+impl Edition {
+    /// In the order in which they are tried.
+    pub const ALL: [Edition; 2] = [Edition::One, Edition::Two];
+
+    pub const fn number(self) -> u64 {
+        match self {
+            Edition::One => 1,
+            Edition::Two => 2,
+        }
+    }
+
+    /// "a 32-byte trailer" (01); "Edition 2 has version 2, a 40-byte trailer"
+    /// (02, request 4).
+    pub(crate) const fn trailer_len(self) -> usize {
+        match self {
+            Edition::One => FIELDS,
+            Edition::Two => FIELDS + 8,
+        }
+    }
+
+    /// Words of a map before its units: "P+1 words for each map: first the
+    /// compressed size, then the units" (02, request 4).
+    pub(crate) const fn size_words(self) -> usize {
+        match self {
+            Edition::One => 0,
+            Edition::Two => 1,
+        }
+    }
+
+    /// "The trailer begins with the four bytes 52 4D 41 50, then u16 version"
+    /// (01), which is the edition's number.
+    fn start(self) -> [u8; 6] {
+        let [a, b, c, d] = TAG;
+        let [low, high] = (self.number() as u16).to_le_bytes();
+        [a, b, c, d, low, high]
+    }
+
+    /// The trailer of this edition, its fields and what comes after them, if
+    /// the image ends in one by its tag and version.
+    fn trailer_in(self, image: &[u8]) -> Option<(&[u8; FIELDS], &[u8])> {
+        let from = image.len().checked_sub(self.trailer_len())?;
+        let (fields, spare) = image[from..].split_first_chunk()?;
+        fields.starts_with(&self.start()).then_some((fields, spare))
+    }
+
+    /// Rows 1 and 2: "image under 32 bytes" (01); "The last 32 bytes are tried
+    /// as edition 1 first, then the last 40 as edition 2; if neither has tag
+    /// and version, 2." (02, request 4) Tag and version alone decide
+    /// (Decision 62). Answers the trailer as well.
+    pub(crate) fn of_image(image: &[u8]) -> Answer<(Self, &[u8; FIELDS], &[u8])> {
+        if image.len() < Edition::One.trailer_len() {
+            return Err(Refusal::plain(SHORT));
+        }
+        for edition in Edition::ALL {
+            if let Some((fields, spare)) = edition.trailer_in(image) {
+                return Ok((edition, fields, spare));
+            }
+        }
+        Err(Refusal::plain(FOREIGN))
+    }
+}
 
 /// A geometry within the limits. All figures are small, so the sums and
 /// products below cannot overflow.
 #[derive(Clone, Copy, Debug, PartialEq, Eq)]
 pub(crate) struct Geometry {
+    pub edition: Edition,
     /// Units in a chunk, P.
     pub p: usize,
     /// Chunks, C.
@@ -43,14 +124,16 @@ pub(crate) struct Geometry {
 
 impl Geometry {
     /// "P units make a chunk, 2 to 16. C chunks, 1 to 256. M chunk maps, C+1
-    /// to C+32. N backing units, P to P·M." (01) Each limit is tested before
-    /// its number is used to make the next one, so that nothing wraps.
-    pub fn within_limits(p: u64, c: u64, m: u64, n: u64) -> Option<Self> {
+    /// to C+32. N backing units, P to P·M." (01) The limits are the same in
+    /// both editions (Decision 63). Each is tested before its number is used
+    /// to make the next one, so that nothing wraps.
+    pub fn within_limits(edition: Edition, p: u64, c: u64, m: u64, n: u64) -> Option<Self> {
         let good = (2..=16).contains(&p)
             && (1..=256).contains(&c)
             && (c + 1..=c + 32).contains(&m)
             && (p..=p * m).contains(&n);
         good.then_some(Geometry {
+            edition,
             p: p as usize,
             c: c as usize,
             m: m as usize,
@@ -58,17 +141,24 @@ impl Geometry {
         })
     }
 
+    /// The words of a map: "M chunk maps of P words each" (01), "P+1 words for
+    /// each map" in edition 2 (02, request 4).
+    pub fn map_words(&self) -> usize {
+        self.edition.size_words() + self.p
+    }
+
     fn logical_len(&self) -> usize {
         WORD * self.c
     }
 
     fn maps_len(&self) -> usize {
-        WORD * self.m * self.p
+        WORD * self.m * self.map_words()
     }
 
-    /// "length of the whole image (8C+8MP+32)" (01).
+    /// "length of the whole image (8C+8MP+32)" (01), "counted the same way"
+    /// in edition 2: 8C+8M(P+1)+40 (Decision 63).
     pub fn image_len(&self) -> usize {
-        self.logical_len() + self.maps_len() + TRAILER
+        self.logical_len() + self.maps_len() + self.edition.trailer_len()
     }
 
     /// Bytes of the volume that the caller sees: C·P·4,096.
@@ -86,17 +176,23 @@ impl Geometry {
         WORD * chunk
     }
 
-    /// Byte position of a word of a chunk map: "then M chunk maps of P words
-    /// each" (01).
+    /// Byte position of a word of a chunk map: the maps stand after the
+    /// logical map, one after the other (01).
     pub fn map_word_at(&self, map: usize, word: usize) -> usize {
-        self.logical_len() + WORD * (map * self.p + word)
+        self.logical_len() + WORD * (map * self.map_words() + word)
     }
 
-    /// "The trailer begins with the four bytes 52 4D 41 50, then u16 version
-    /// 1, u16 P, and u32 each: C, M, N, distance back from the trailer's first
-    /// byte to the logical map (8C+8MP), distance back to the chunk maps
-    /// (8MP), length of the whole image (8C+8MP+32)." (01)
-    pub fn trailer(&self) -> [u8; TRAILER] {
+    /// Byte position of a map's j-th unit: the units come last in a map.
+    pub fn unit_at(&self, map: usize, j: usize) -> usize {
+        self.map_word_at(map, self.edition.size_words() + j)
+    }
+
+    /// The fields that both editions have: "The trailer begins with the four
+    /// bytes 52 4D 41 50, then u16 version 1, u16 P, and u32 each: C, M, N,
+    /// distance back from the trailer's first byte to the logical map (8C+8MP),
+    /// distance back to the chunk maps (8MP), length of the whole image
+    /// (8C+8MP+32)." (01)
+    fn fields(&self) -> [u8; FIELDS] {
         let words = [
             self.c,
             self.m,
@@ -105,42 +201,40 @@ impl Geometry {
             self.maps_len(),
             self.image_len(),
         ];
-        let mut trailer = [0; TRAILER];
-        trailer[..4].copy_from_slice(&TAG);
-        trailer[4..6].copy_from_slice(&VERSION.to_le_bytes());
-        trailer[6..8].copy_from_slice(&(self.p as u16).to_le_bytes());
-        for (field, word) in trailer[8..].chunks_exact_mut(4).zip(words) {
+        let mut fields = [0; FIELDS];
+        fields[..6].copy_from_slice(&self.edition.start());
+        fields[6..8].copy_from_slice(&(self.p as u16).to_le_bytes());
+        for (field, word) in fields[8..].chunks_exact_mut(4).zip(words) {
             field.copy_from_slice(&(word as u32).to_le_bytes());
         }
-        trailer
+        fields
     }
 
-    /// Rows 1 to 3 of the table: "image under 32 bytes", "first four trailer
-    /// bytes or version wrong", "a limit broken, or a distance or length that
-    /// disagrees". The slice is the image, with no slack before it
-    /// (Decision 6).
+    /// Writes the trailer: the fields and, in edition 2, "then two u32 that
+    /// must be 0" (02, request 4). The slice must have its length.
+    pub fn write_trailer(&self, trailer: &mut [u8]) {
+        let (fields, spare) = trailer.split_at_mut(FIELDS);
+        fields.copy_from_slice(&self.fields());
+        spare.fill(0);
+    }
+
+    /// Rows 1 to 3 of the table; row 3: "a limit broken, or a distance or
+    /// length that disagrees" (01), or one of edition 2's last two numbers
+    /// that is not 0. The slice is the image, with no slack before it
+    /// (Decision 6). What is wrong besides tag and version is not tried again
+    /// as the other edition (Decision 62).
     pub fn of_image(image: &[u8]) -> Answer<Self> {
-        let Some(trailer) = image.last_chunk::<TRAILER>() else {
-            return Err(Refusal::plain(SHORT));
-        };
-        let [t0, t1, t2, t3, v0, v1, p0, p1, rest @ ..] = trailer;
-        if [*t0, *t1, *t2, *t3] != TAG || u16::from_le_bytes([*v0, *v1]) != VERSION {
-            return Err(Refusal::plain(FOREIGN));
-        }
-        let field = |i: usize| {
-            let b = &rest[4 * i..4 * i + 4];
+        let (edition, fields, spare) = Edition::of_image(image)?;
+        let number = |at: usize| {
+            let b = &fields[at..at + 4];
             u64::from(u32::from_le_bytes([b[0], b[1], b[2], b[3]]))
         };
-        let p = u64::from(u16::from_le_bytes([*p0, *p1]));
+        let p = u64::from(u16::from_le_bytes([fields[6], fields[7]]));
         // Once the four numbers are good they fix the whole trailer, so the
         // distances and the length are compared all at once.
-        match Geometry::within_limits(p, field(0), field(1), field(2)) {
-            Some(geometry)
-                if geometry.image_len() == image.len() && geometry.trailer() == *trailer =>
-            {
-                Ok(geometry)
-            }
-            _ => Err(Refusal::plain(GEOMETRY)),
-        }
+        Geometry::within_limits(edition, p, number(8), number(12), number(16))
+            .filter(|geometry| geometry.image_len() == image.len())
+            .filter(|geometry| geometry.fields() == *fields && spare.iter().all(|&byte| byte == 0))
+            .ok_or(Refusal::plain(GEOMETRY))
     }
 }

@@ -1,7 +1,7 @@
-//! Format and load: the image as a whole, and what makes it sound.
+//! Format, load and shape: the image as a whole, and what makes it sound.
 
 use super::bits::BitSet;
-use super::geometry::{Geometry, MAP_WORDS, UNIT_WORDS, WORD};
+use super::geometry::{Edition, Geometry, MAP_WORDS, UNIT, UNIT_WORDS, WORD};
 use super::refusals::{BAD_LINK, BAD_MAP, GEOMETRY, RANGE, SHARED};
 use super::{Answer, Refusal};
 
@@ -22,6 +22,18 @@ pub struct Loaded {
     pub maps: [u64; 5],
 }
 
+/// "The edition comes from a new call" (Decision 71): edition, P, C, M, N and
+/// the reserved units, of which there are none.
+#[derive(Clone, Copy, Debug, PartialEq, Eq)]
+pub struct Shape {
+    pub edition: u64,
+    pub p: u64,
+    pub c: u64,
+    pub m: u64,
+    pub n: u64,
+    pub r: u64,
+}
+
 /// A sound image, with its free sets rebuilt.
 pub(crate) struct Volume<'a> {
     pub geometry: Geometry,
@@ -35,18 +47,21 @@ pub(crate) struct Volume<'a> {
 pub(crate) struct Words<'a> {
     logical: &'a [[u8; WORD]],
     maps: &'a [[u8; WORD]],
+    /// Words of a map, and how many of them are units'.
+    width: usize,
     p: usize,
 }
 
 impl<'a> Words<'a> {
     /// "First the logical map, C words of 64 bits; then M chunk maps of P
-    /// words each" (01).
+    /// words each" (01), of P+1 in edition 2 (02, request 4).
     pub fn of_image(image: &'a [u8], geometry: &Geometry) -> Self {
         let (words, _) = image.as_chunks::<WORD>();
         let (logical, rest) = words.split_at(geometry.c);
         Words {
             logical,
-            maps: &rest[..geometry.m * geometry.p],
+            maps: &rest[..geometry.m * geometry.map_words()],
+            width: geometry.map_words(),
             p: geometry.p,
         }
     }
@@ -57,21 +72,38 @@ impl<'a> Words<'a> {
         entries.enumerate().filter(|&(_, entry)| entry != X)
     }
 
-    fn map(self, map: u64) -> impl Iterator<Item = u64> + 'a {
-        let first = map as usize * self.p;
-        let words = &self.maps[first..first + self.p];
-        words.iter().map(|word| u64::from_le_bytes(*word))
+    /// The P unit words of a map, the last ones of it.
+    fn units(self, map: u64) -> impl Iterator<Item = u64> + 'a {
+        let end = (map as usize + 1) * self.width;
+        let units = &self.maps[end - self.p..end];
+        units.iter().map(|word| u64::from_le_bytes(*word))
     }
 
-    /// The units at the front of a map, up to the first X.
+    /// The size that a map keeps: "first the compressed size, then the units"
+    /// (02, request 4). Edition 1 keeps none.
+    pub fn size(self, map: u64) -> Option<u64> {
+        let first = map as usize * self.width;
+        (self.width > self.p).then(|| u64::from_le_bytes(self.maps[first]))
+    }
+
+    /// "A sound map has k equal to the size rounded up in units" (02,
+    /// request 4), the size being 64 bits wide (Decision 65).
+    fn size_takes(self, map: u64, k: usize) -> bool {
+        self.size(map)
+            .is_none_or(|size| size.div_ceil(UNIT) == k as u64)
+    }
+
+    /// The units of a map, up to the first X.
     pub fn held(self, map: u64) -> impl Iterator<Item = u64> + 'a {
-        self.map(map).take_while(|&word| word != X)
+        self.units(map).take_while(|&word| word != X)
     }
 
-    /// Whether a map "holds 1 to P units below N, then only X" (01).
+    /// Whether a map "holds 1 to P units below N, then only X" (01), with a
+    /// size that takes just those units, if it keeps one.
     pub fn is_well_formed(self, map: u64, n: u64) -> bool {
-        let held = self.map(map).take_while(|&word| word < n).count();
-        held > 0 && self.map(map).skip(held).all(|word| word == X)
+        let held = self.units(map).take_while(|&word| word < n).count();
+        let only_x = self.units(map).skip(held).all(|word| word == X);
+        held > 0 && only_x && self.size_takes(map, held)
     }
 
     /// "The first chunk is the lowest one it clashes with, or itself if none
@@ -91,6 +123,9 @@ impl<'a> Volume<'a> {
     /// Rows 1 to 6: "Every entry point first applies 1 to 6 to its image"
     /// (01), each row asked of all chunks before the next (Decision 3). "The
     /// free set is rebuilt at load" from the named maps only.
+    ///
+    /// Inlined, so that a caller does not copy both sets on their way out.
+    #[inline(always)]
     pub fn open(image: &'a [u8]) -> Answer<Self> {
         let geometry = Geometry::of_image(image)?;
         let words = Words::of_image(image, &geometry);
@@ -107,12 +142,13 @@ impl<'a> Volume<'a> {
         let mut clash = None;
         for (chunk, map) in words.links() {
             // Row 5: a named map that is not "1 to P units below N, then only
-            // X", the lowest such chunk. Row 6: "the second chunk is the
-            // lowest that claims a map or unit of a lower chunk, or one unit
-            // twice"; in each case the map or unit is gone by then.
+            // X", or whose size takes other units, the lowest such chunk.
+            // Row 6: "the second chunk is the lowest that claims a map or unit
+            // of a lower chunk, or one unit twice"; in each case the map or
+            // unit is gone by then.
             let mut fresh = free_maps.remove(map as usize);
             let mut held = 0;
-            let mut rest = words.map(map);
+            let mut rest = words.units(map);
             for unit in rest.by_ref().take_while(|&word| word != X) {
                 // Words count as 64 bits: 2^32-1 is no X (Decision 5).
                 if unit >= geometry.n as u64 {
@@ -121,7 +157,7 @@ impl<'a> Volume<'a> {
                 fresh &= free_units.remove(unit as usize);
                 held += 1;
             }
-            if held == 0 || !rest.all(|word| word == X) {
+            if held == 0 || !rest.all(|word| word == X) || !words.size_takes(map, held) {
                 return Err(Refusal::at(BAD_MAP, chunk as u64));
             }
             if !fresh && clash.is_none() {
@@ -159,9 +195,26 @@ impl<'a> Volume<'a> {
         (entry != X).then_some(entry as usize)
     }
 
-    /// How many units a map holds, its words up to the first X.
+    /// How many units a map holds, those before the first X.
     pub fn held_in(&self, map: usize) -> usize {
         self.words.held(map as u64).count()
+    }
+
+    /// "a call answers a chunk's stored size, k·4,096 in edition 1" and the
+    /// size word in edition 2 (02, request 4).
+    pub fn size_in(&self, map: usize) -> u64 {
+        let whole = || self.held_in(map) as u64 * UNIT;
+        self.words.size(map as u64).unwrap_or_else(whole)
+    }
+
+    /// Chunk and map number of each mapped chunk, chunks rising.
+    pub fn links(&self) -> impl Iterator<Item = (usize, u64)> + 'a {
+        self.words.links()
+    }
+
+    /// The units that a map holds, in order.
+    pub fn units_in(&self, map: usize) -> impl Iterator<Item = u64> + 'a {
+        self.words.held(map as u64)
     }
 
     pub fn mapped_chunks(&self) -> u64 {
@@ -173,7 +226,7 @@ impl<'a> Volume<'a> {
 /// for maps." (01)
 pub fn load(image: &[u8]) -> Answer<Loaded> {
     let volume = Volume::open(image)?;
-    let Geometry { p, c, m, n } = volume.geometry;
+    let Geometry { p, c, m, n, .. } = volume.geometry;
     Ok(Loaded {
         p: p as u64,
         c: c as u64,
@@ -184,16 +237,53 @@ pub fn load(image: &[u8]) -> Answer<Loaded> {
     })
 }
 
-/// Format. "A fresh image has X in every entry and every map word." It "gives
-/// only 3 (also if the lent buffer isn't exactly the image's length)" (01).
-pub fn format(image: &mut [u8], p: u64, c: u64, m: u64, n: u64) -> Answer<()> {
-    let geometry = Geometry::within_limits(p, c, m, n)
-        .filter(|geometry| geometry.image_len() == image.len())
-        .ok_or(Refusal::plain(GEOMETRY))?;
-    let trailer = geometry.trailer();
-    let (tables, end) = image.split_at_mut(image.len() - trailer.len());
+/// Shape. Judges the image as every entry point does, and answers its edition
+/// and geometry (Decision 71).
+pub fn shape(image: &[u8]) -> Answer<Shape> {
+    let Geometry {
+        edition,
+        p,
+        c,
+        m,
+        n,
+    } = Volume::open(image)?.geometry;
+    Ok(Shape {
+        edition: edition.number(),
+        p: p as u64,
+        c: c as u64,
+        m: m as u64,
+        n: n as u64,
+        r: 0,
+    })
+}
+
+/// "A fresh image has X in every entry and every map word" (01), the size too
+/// (Decision 65). The buffer must have the image's length.
+pub(crate) fn write_fresh(image: &mut [u8], geometry: &Geometry) {
+    let (tables, trailer) = image.split_at_mut(image.len() - geometry.edition.trailer_len());
     // X is all ones, so every byte of both tables is FF.
     tables.fill(0xFF);
-    end.copy_from_slice(&trailer);
+    geometry.write_trailer(trailer);
+}
+
+/// Format of either edition. It "gives only 3 (also if the lent buffer isn't
+/// exactly the image's length)" (01).
+fn format_as(image: &mut [u8], geometry: Option<Geometry>) -> Answer<()> {
+    let geometry = geometry
+        .filter(|geometry| geometry.image_len() == image.len())
+        .ok_or(Refusal::plain(GEOMETRY))?;
+    write_fresh(image, &geometry);
     Ok(())
+}
+
+/// Format of edition 1.
+pub fn format(image: &mut [u8], p: u64, c: u64, m: u64, n: u64) -> Answer<()> {
+    format_as(image, Geometry::within_limits(Edition::One, p, c, m, n))
+}
+
+/// Format of edition 2. It "takes R from the start, which must be 0 here, else
+/// 3" (Decision 71).
+pub fn format2(image: &mut [u8], p: u64, c: u64, m: u64, n: u64, r: u64) -> Answer<()> {
+    let geometry = Geometry::within_limits(Edition::Two, p, c, m, n);
+    format_as(image, geometry.filter(|_| r == 0))
 }

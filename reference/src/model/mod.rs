@@ -1,11 +1,13 @@
-//! The model: format, load, split, plan, check, carry out, report, alarm and
-//! repair on the metadata image of one compressed volume.
+//! The model: format, load, split, plan, check, carry out, report, alarm,
+//! repair and conversion on the metadata image of one compressed volume, of
+//! either edition.
 //!
 //! Nothing here allocates. Every function settles all refusals before its
 //! first store, so "a refusal changes nothing lent" (01) holds by order.
 
 mod bits;
 mod carry;
+mod convert;
 mod figures;
 mod geometry;
 mod image;
@@ -17,11 +19,12 @@ mod rules;
 mod tests;
 
 pub use carry::{carry_discard, carry_write};
+pub use convert::convert;
 pub use figures::{alarm_count, alarm_fraction, report, Report};
-pub use geometry::{MAX_IMAGE_LEN, MAX_MAPS, MAX_UNITS_PER_CHUNK, UNIT};
-pub use image::{format, load, Loaded};
+pub use geometry::{Edition, MAX_IMAGE2_LEN, MAX_IMAGE_LEN, MAX_MAPS, MAX_UNITS_PER_CHUNK, UNIT};
+pub use image::{format, format2, load, shape, Loaded, Shape};
 pub use plan::{plan_discard, plan_write, ABSENT, STEP};
-pub use ranges::{access, held, split, Access, PIECE};
+pub use ranges::{access, held, split, stored_size, Access, PIECE};
 pub use repair::{repair, LISTED};
 pub use rules::{check_discard, check_write, MAX_STEPS};
 

@@ -70,20 +70,27 @@ impl Step {
 
     /// One step, if it keeps rule 1: "of the four kinds; units below N, pieces
     /// and words below P, maps below M, chunks below C; a MAP value below N or
-    /// X, a LINK value below M or X; unused fields 0." (01)
+    /// X, a LINK value below M or X; unused fields 0." (01) In edition 2 "MAP
+    /// words run from 0 to P: word 0 holds 1 to P·4,096" (02, request 4).
     pub fn decode(bytes: &[u8; STEP], geometry: &Geometry) -> Option<Self> {
         let field = |i: usize| {
             let b = &bytes[4 * i..4 * i + 4];
             u32::from_le_bytes([b[0], b[1], b[2], b[3]])
         };
         let below = |number: u32, limit: usize| (number as usize) < limit;
-        let Geometry { p, c, m, n } = *geometry;
+        let Geometry { p, c, m, n, .. } = *geometry;
         match [field(0), field(1), field(2), field(3)] {
             [1, unit, piece, 0] if below(unit, n) && below(piece, p) => {
                 Some(Step::Data { unit, piece })
             }
-            [2, map, word, value] if below(map, m) && below(word, p) => {
-                let value = Value::decode(value, n)?;
+            [2, map, word, value] if below(map, m) && below(word, geometry.map_words()) => {
+                let value = if below(word, geometry.edition.size_words()) {
+                    // X is far above P·4,096, which is at most 65,536.
+                    units_of(geometry, u64::from(value)).ok()?;
+                    Value::Number(value)
+                } else {
+                    Value::decode(value, n)?
+                };
                 Some(Step::Map { map, word, value })
             }
             [3, chunk, 0, value] if below(chunk, c) => {
@@ -106,6 +113,22 @@ pub(crate) fn units_of(geometry: &Geometry, size: u64) -> Answer<usize> {
     }
 }
 
+/// The value of a word of a write's map: "word 0 holds [..] the request's size
+/// (rule 3), and word j+1 is piece j's unit or X" (02, request 4); in edition 1
+/// "word j is piece j's unit for j below k, else X" (01). The size is good, so
+/// it fits.
+pub(crate) fn map_value(
+    geometry: &Geometry,
+    size: u64,
+    word: usize,
+    unit_of_piece: impl FnOnce(usize) -> Option<u32>,
+) -> Value {
+    match word.checked_sub(geometry.edition.size_words()) {
+        None => Value::Number(size as u32),
+        Some(piece) => unit_of_piece(piece).map_or(Value::Absent, Value::Number),
+    }
+}
+
 /// Row 10: "lent output too short", the place being the bytes that this very
 /// answer takes (Decision 10); then writes the steps.
 fn write_plan(out: &mut [u8], steps: impl Iterator<Item = Step>, count: usize) -> Answer<u64> {
@@ -121,14 +144,15 @@ fn write_plan(out: &mut [u8], steps: impl Iterator<Item = Step>, count: usize) -
 
 /// The planner's write. "DATA for pieces 0 to k-1 on the k lowest free units,
 /// rising; MAP for words 0 to P-1 of the lowest free map (units, then X);
-/// FENCE; LINK; FENCE. That is k+P+3 steps, at most 35." (01) Refusals 7, 8,
-/// 9, 10 in that order; the chunk's own old units are not free
-/// (Decision 10).
+/// FENCE; LINK; FENCE. That is k+P+3 steps, at most 35." (01) In edition 2 the
+/// size comes before the units: "The planner's write has k+P+4 steps." (02,
+/// request 4) Refusals 7, 8, 9, 10 in that order; the chunk's own old units
+/// are not free (Decision 10).
 pub fn plan_write(image: &[u8], chunk: u64, size: u64, out: &mut [u8]) -> Answer<u64> {
     let volume = Volume::open(image)?;
-    let Geometry { p, .. } = volume.geometry;
+    let geometry = volume.geometry;
     let chunk = volume.chunk(chunk)? as u32;
-    let k = units_of(&volume.geometry, size)?;
+    let k = units_of(&geometry, size)?;
 
     // Row 9: "fewer than k units free".
     let mut units = [0; MAX_UNITS_PER_CHUNK];
@@ -147,17 +171,17 @@ pub fn plan_write(image: &[u8], chunk: u64, size: u64, out: &mut [u8]) -> Answer
     let data = (0..)
         .zip(units)
         .map(|(piece, &unit)| Step::Data { unit, piece });
-    let words = (0..p).map(|word| Step::Map {
+    let words = (0..geometry.map_words()).map(|word| Step::Map {
         map,
         word: word as u32,
-        value: units.get(word).map_or(Value::Absent, |&u| Value::Number(u)),
+        value: map_value(&geometry, size, word, |piece| units.get(piece).copied()),
     });
     let link = Step::Link {
         chunk,
         value: Value::Number(map),
     };
     let steps = data.chain(words).chain([Step::Fence, link, Step::Fence]);
-    write_plan(out, steps, k + p + 3)
+    write_plan(out, steps, k + geometry.map_words() + 3)
 }
 
 /// The planner's discard. "Discard of a mapped chunk: LINK to X, FENCE. Of an

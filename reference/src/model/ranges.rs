@@ -1,4 +1,4 @@
-//! Byte ranges of the volume and the held words of a chunk.
+//! Byte ranges of the volume, and the held words and stored size of a chunk.
 
 use core::ops::Range;
 
@@ -81,15 +81,25 @@ pub fn access(image: &[u8], write: bool, offset: u64, length: u64) -> Answer<Acc
 
 /// Held words. "The held words of a chunk's map are handed back as that part
 /// of the caller's own image" (01): the k unit words, 8·k bytes
-/// (Decision 15), as a byte range; 0..0 for an unmapped chunk.
+/// (Decision 15), as a byte range; 0..0 for an unmapped chunk. In edition 2
+/// "The words handed back are still the units" (02, request 4).
 pub fn held(image: &[u8], chunk: u64) -> Answer<Range<usize>> {
     let volume = Volume::open(image)?;
     let chunk = volume.chunk(chunk)?;
     Ok(match volume.link(chunk) {
         None => 0..0,
         Some(map) => {
-            let first = volume.geometry.map_word_at(map, 0);
+            let first = volume.geometry.unit_at(map, 0);
             first..first + WORD * volume.held_in(map)
         }
     })
+}
+
+/// Stored size. "a call answers a chunk's stored size, k·4,096 in edition 1 and
+/// 0 for an unmapped chunk" (02, request 4); in edition 2 the size word. "7 for
+/// a chunk not below C" (Decision 68).
+pub fn stored_size(image: &[u8], chunk: u64) -> Answer<u64> {
+    let volume = Volume::open(image)?;
+    let chunk = volume.chunk(chunk)?;
+    Ok(volume.link(chunk).map_or(0, |map| volume.size_in(map)))
 }

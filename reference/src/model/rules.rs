@@ -1,8 +1,8 @@
 //! The plan checker.
 
-use super::geometry::{Geometry, MAX_UNITS_PER_CHUNK};
+use super::geometry::{Geometry, MAX_MAP_WORDS, MAX_UNITS_PER_CHUNK};
 use super::image::Volume;
-use super::plan::{units_of, Step, Value, STEP};
+use super::plan::{map_value, units_of, Step, Value, STEP};
 use super::refusals::{BAD_PLAN, RANGE};
 use super::{Answer, Refusal};
 
@@ -28,16 +28,17 @@ fn steps<'a>(
     Ok(whole.iter().map(decode))
 }
 
-/// Rules 1 to 5 for a write. One pass gathers what rules 2 to 5 ask for; a
-/// step that breaks rule 1 ends it at once, as no lower rule is left. After
-/// the pass the rules are judged in order, so the lowest broken one is named.
-fn write_rules(volume: &mut Volume, chunk: usize, k: usize, plan: &[u8]) -> Answer<()> {
+/// Row 8, then rules 1 to 5 for a write. One pass gathers what rules 2 to 5
+/// ask for; a step that breaks rule 1 ends it at once, as no lower rule is
+/// left. After the pass the rules are judged in order, so the lowest broken
+/// one is named.
+fn write_rules(volume: &mut Volume, chunk: usize, size: u64, plan: &[u8]) -> Answer<()> {
     let geometry = volume.geometry;
-    let p = geometry.p;
+    let k = units_of(&geometry, size)?;
 
     let mut units = [None; MAX_UNITS_PER_CHUNK];
     let mut pieces_good = true;
-    let mut words = [None; MAX_UNITS_PER_CHUNK];
+    let mut words = [None; MAX_MAP_WORDS];
     let mut map = None;
     let mut words_good = true;
     let mut link = None;
@@ -86,17 +87,15 @@ fn write_rules(volume: &mut Volume, chunk: usize, k: usize, plan: &[u8]) -> Answ
         return Err(broken(2));
     }
     // Rule 3: "all MAP steps on one free map, each word 0 to P-1 once; word j
-    // is piece j's unit for j below k, else X." With rule 2 kept, exactly the
-    // first k pieces have a unit.
+    // is piece j's unit for j below k, else X." (01) In edition 2 word 0 is
+    // "the request's size (rule 3), and word j+1 is piece j's unit or X" (02,
+    // request 4). With rule 2 kept, exactly the first k pieces have a unit.
     let Some(map) = map.filter(|&map| words_good && volume.free_maps.contains(map as usize)) else {
         return Err(broken(3));
     };
-    let expected = |unit: &Option<u32>| Some(unit.map_or(Value::Absent, Value::Number));
-    if !words[..p]
-        .iter()
-        .copied()
-        .eq(units[..p].iter().map(expected))
-    {
+    let expected = |word| map_value(&geometry, size, word, |piece| units[piece]);
+    let width = geometry.map_words();
+    if !(0..width).all(|word| words[word] == Some(expected(word))) {
         return Err(broken(3));
     }
     // Rule 4: "one LINK, this chunk, that map."
@@ -179,10 +178,7 @@ pub(crate) fn judge(
         return Err(Refusal::plain(RANGE));
     }
     match size {
-        Some(size) => {
-            let k = units_of(&volume.geometry, size)?;
-            write_rules(&mut volume, chunk, k, plan)?;
-        }
+        Some(size) => write_rules(&mut volume, chunk, size, plan)?,
         None => discard_rules(&volume, chunk, plan)?,
     }
     Ok(volume.geometry)

@@ -3,6 +3,7 @@
 
 use super::*;
 
+mod edition2;
 mod repair;
 
 const X: u64 = u64::MAX;
@@ -60,7 +61,7 @@ fn plan(steps: &[[u32; 4]]) -> Vec<u8> {
 }
 
 fn planned(image: &[u8], chunk: u64, size: u64) -> Vec<u8> {
-    let mut out = [0; STEP * 35];
+    let mut out = [0; STEP * 36];
     let steps = plan_write(image, chunk, size, &mut out).expect("a plan");
     out[..STEP * steps as usize].to_vec()
 }
@@ -976,7 +977,7 @@ fn rules_2_to_5_of_a_write() {
 #[test]
 fn the_planners_plans_pass_at_every_size() {
     let mut image = fresh(5, 3, 6, 19);
-    let mut out = [0; STEP * 35];
+    let mut out = [0; STEP * 36];
     for size in (1..=5).flat_map(|k| [4096 * (k - 1) + 1, 4096 * k]) {
         for chunk in 0..3 {
             match plan_write(&image, chunk, size, &mut out) {

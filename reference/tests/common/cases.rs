@@ -3,7 +3,7 @@
 
 use std::fmt::Write;
 
-use sumbilak_reference::ffi::{self, CAnswer, CReport, LOAD_WORDS};
+use sumbilak_reference::ffi::{self, CAnswer, CReport, CShape, LOAD_WORDS};
 use sumbilak_reference::inputs::Fields;
 use sumbilak_reference::model::{self, Access, Answer, Refusal};
 
@@ -25,10 +25,14 @@ pub enum Entry {
     AlarmFraction,
     Report,
     Repair,
+    Format2,
+    Shape,
+    StoredSize,
+    Convert,
 }
 
 impl Entry {
-    pub const ALL: [Entry; 15] = [
+    pub const ALL: [Entry; 19] = [
         Entry::Format,
         Entry::Load,
         Entry::Split,
@@ -44,6 +48,10 @@ impl Entry {
         Entry::AlarmFraction,
         Entry::Report,
         Entry::Repair,
+        Entry::Format2,
+        Entry::Shape,
+        Entry::StoredSize,
+        Entry::Convert,
     ];
 
     pub fn name(self) -> &'static str {
@@ -63,6 +71,10 @@ impl Entry {
             Entry::AlarmFraction => "alarm_fraction",
             Entry::Report => "report",
             Entry::Repair => "repair",
+            Entry::Format2 => "format2",
+            Entry::Shape => "shape",
+            Entry::StoredSize => "stored_size",
+            Entry::Convert => "convert",
         }
     }
 }
@@ -120,6 +132,18 @@ pub enum Call {
     },
     Report,
     Repair,
+    Format2 {
+        p: u64,
+        c: u64,
+        m: u64,
+        n: u64,
+        r: u64,
+    },
+    Shape,
+    StoredSize {
+        chunk: u64,
+    },
+    Convert,
 }
 
 /// The lent bytes and the call. `out` is what an output holds before the call,
@@ -221,6 +245,22 @@ pub fn by_model(case: &Case) -> Outcome {
             ]
         }),
         Call::Repair => fields(model::repair(&mut image, &mut out), value),
+        Call::Format2 { p, c, m, n, r } => {
+            fields(model::format2(&mut image, p, c, m, n, r), nothing)
+        }
+        Call::Shape => fields(model::shape(&image), |shape| {
+            let model::Shape {
+                edition,
+                p,
+                c,
+                m,
+                n,
+                r,
+            } = shape;
+            [0, 0, 0, edition, p, c, m, n, r]
+        }),
+        Call::StoredSize { chunk } => fields(model::stored_size(&image, chunk), value),
+        Call::Convert => fields(model::convert(&image, &mut out), value),
     };
     Outcome {
         answer,
@@ -327,6 +367,21 @@ fn report_words(report: CReport) -> [u64; 9] {
     ]
 }
 
+fn shape_words(shape: CShape) -> [u64; 9] {
+    let CShape {
+        number,
+        place,
+        second,
+        edition,
+        p,
+        c,
+        m,
+        n,
+        r,
+    } = shape;
+    [number, place, second, edition, p, c, m, n, r]
+}
+
 /// What the library makes of the case, and whether it kept to what it was
 /// lent.
 pub fn by_library(case: &Case) -> (Outcome, bool) {
@@ -391,6 +446,10 @@ pub fn by_library(case: &Case) -> (Outcome, bool) {
         Call::AlarmFraction { fraction } => words(ffi::alarm_fraction(image.slice(), fraction)),
         Call::Report => report_words(ffi::report(image.slice())),
         Call::Repair => words(ffi::repair(image.slice_mut(), out.slice_mut())),
+        Call::Format2 { p, c, m, n, r } => words(ffi::format2(image.slice_mut(), p, c, m, n, r)),
+        Call::Shape => shape_words(ffi::shape(image.slice())),
+        Call::StoredSize { chunk } => words(ffi::stored_size(image.slice(), chunk)),
+        Call::Convert => words(ffi::convert(image.slice(), out.slice_mut())),
     };
     let intact = image.guards_intact() && out.guards_intact() && plan.guards_intact();
     let outcome = Outcome {

@@ -1,7 +1,7 @@
 //! Cases for each entry point, drawn from a pool of sound volumes.
 
 use sumbilak_reference::ffi::LOAD_WORDS;
-use sumbilak_reference::inputs::{self, Base, Shape, TWO_32};
+use sumbilak_reference::inputs::{self, Base, Edition, Shape, TWO_32};
 use sumbilak_reference::model;
 use sumbilak_reference::rng::Rng;
 
@@ -10,8 +10,10 @@ use super::cases::{Call, Case, Entry};
 /// A case for the entry point. Image and request go wrong independently of
 /// each other, so every row of the one meets every row of the other.
 pub fn case(rng: &mut Rng, entry: Entry, pool: &[Base]) -> Case {
-    if entry == Entry::Format {
-        return format(rng);
+    match entry {
+        Entry::Format => return format(rng, Edition::One),
+        Entry::Format2 => return format(rng, Edition::Two),
+        _ => {}
     }
     let base = &pool[rng.index(pool.len())];
     let shape = &base.shape;
@@ -22,7 +24,7 @@ pub fn case(rng: &mut Rng, entry: Entry, pool: &[Base]) -> Case {
     let mut plan = Vec::new();
     let mut room = 0;
     let call = match entry {
-        Entry::Format => unreachable!("made above"),
+        Entry::Format | Entry::Format2 => unreachable!("made above"),
         Entry::Load => {
             room = 8 * inputs::room(rng, LOAD_WORDS as u64);
             Call::Load
@@ -49,7 +51,7 @@ pub fn case(rng: &mut Rng, entry: Entry, pool: &[Base]) -> Case {
         Entry::PlanWrite => {
             let size = inputs::size(rng, shape);
             let k = size.div_ceil(model::UNIT).clamp(1, shape.p);
-            room = inputs::room(rng, 16 * (k + shape.p + 3));
+            room = inputs::room(rng, 16 * shape.write_steps(k));
             Call::PlanWrite {
                 chunk: inputs::chunk(rng, shape),
                 size,
@@ -105,6 +107,23 @@ pub fn case(rng: &mut Rng, entry: Entry, pool: &[Base]) -> Case {
             room = inputs::room(rng, 4 * unlinked);
             Call::Repair
         }
+        Entry::Shape => Call::Shape,
+        Entry::StoredSize => Call::StoredSize {
+            chunk: inputs::chunk(rng, shape),
+        },
+        Entry::Convert => {
+            // The new length, for an image of edition 2 its own.
+            let needed = shape.in_edition(Edition::Two).image_len();
+            room = match rng.below(12) {
+                0..=6 => needed,
+                7 => needed - rng.pick(&[1, 8]),
+                8 => needed + rng.pick(&[1, 8]),
+                9 => image.len(),
+                10 => inputs::shape(rng).image_len(),
+                _ => inputs::room(rng, needed as u64),
+            };
+            Call::Convert
+        }
     };
     let mut out = vec![0; room];
     rng.fill(&mut out);
@@ -118,14 +137,15 @@ pub fn case(rng: &mut Rng, entry: Entry, pool: &[Base]) -> Case {
 }
 
 /// Format: good geometries and each limit broken, on buffers of the right
-/// length and of others.
-fn format(rng: &mut Rng) -> Case {
-    let shape = inputs::shape(rng);
+/// length and of others, the other edition's among them.
+fn format(rng: &mut Rng, edition: Edition) -> Case {
+    let shape = inputs::shape(rng).in_edition(edition);
     let Shape {
         mut p,
         mut c,
         mut m,
         mut n,
+        ..
     } = shape;
     match rng.below(10) {
         0..=5 => {}
@@ -136,23 +156,37 @@ fn format(rng: &mut Rng) -> Case {
     }
     // The length that the formula gives, even if it wraps, as long as it can
     // be lent.
-    let whole = m.wrapping_mul(p).wrapping_add(c).wrapping_mul(8);
-    let len = match whole.wrapping_add(32) {
+    let words = p.wrapping_add(shape.size_words());
+    let whole = m.wrapping_mul(words).wrapping_add(c).wrapping_mul(8);
+    let len = match whole.wrapping_add(shape.trailer_len() as u64) {
         len @ 0..=60_000 => len as usize,
         _ => shape.image_len(),
     };
-    let len = match rng.below(12) {
+    let len = match rng.below(13) {
         0 => len.saturating_sub(1),
         1 => len + 1,
-        2 => rng.pick(&[0, 1, 31, 32, 33]),
+        2 => rng.pick(&[0, 1, 31, 32, 33, 39, 40, 41]),
+        5 => inputs::Edition::ALL
+            .map(|edition| shape.in_edition(edition).image_len())
+            .into_iter()
+            .find(|&other| other != len)
+            .unwrap_or(len),
         3 => rng.index(400),
         4 => inputs::shape(rng).image_len(),
         _ => len,
     };
     let mut image = vec![0; len];
     rng.fill(&mut image);
+    let call = match edition {
+        Edition::One => Call::Format { p, c, m, n },
+        Edition::Two => {
+            let some = [1, 2, p, n.wrapping_sub(p), n, TWO_32, 1 << 63, u64::MAX];
+            let r = if rng.chance(85) { 0 } else { rng.pick(&some) };
+            Call::Format2 { p, c, m, n, r }
+        }
+    };
     Case {
-        call: Call::Format { p, c, m, n },
+        call,
         image,
         out: Vec::new(),
         plan: Vec::new(),

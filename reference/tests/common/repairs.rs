@@ -8,7 +8,7 @@ use std::collections::BTreeSet;
 use std::fmt::Write;
 
 use sumbilak_reference::ffi::{self, LOAD_WORDS};
-use sumbilak_reference::inputs::{self, Shape, X};
+use sumbilak_reference::inputs::{self, Edition, Shape, X};
 
 use super::cases::{Case, Outcome};
 
@@ -17,14 +17,20 @@ use super::cases::{Case, Outcome};
 const FEW_CHUNKS: u64 = 40;
 const ONE_OF: u64 = 25;
 
-/// The four numbers of an image whose trailer is good.
+/// Edition and four numbers of an image whose trailer is good.
 pub fn shape(image: &[u8]) -> Shape {
-    let trailer = &image[image.len() - 32..];
+    let first = &image[image.len() - 32..];
+    let (edition, trailer) = if first.starts_with(b"RMAP\x01\x00") {
+        (Edition::One, first)
+    } else {
+        (Edition::Two, &image[image.len() - 40..])
+    };
     let number = |at: usize, bytes: usize| {
         let bytes = trailer[at..at + bytes].iter().rev();
         bytes.fold(0, |number, &byte| number << 8 | u64::from(byte))
     };
     Shape {
+        edition,
         p: number(6, 2),
         c: number(8, 4),
         m: number(12, 4),
@@ -54,12 +60,11 @@ fn pairwise(shape: &Shape, image: &[u8]) -> Vec<u64> {
             unlinked.insert(chunk);
             continue;
         }
-        let words: Vec<u64> = (0..shape.p)
-            .map(|at| inputs::word(image, shape.word_at(map, at)))
-            .take_while(|&word| word < shape.n)
-            .collect();
-        let after = (words.len() as u64..shape.p).map(|at| shape.word_at(map, at));
-        if words.is_empty() || after.into_iter().any(|at| inputs::word(image, at) != X) {
+        let words = inputs::units_in(shape, image, map);
+        let k = words.len() as u64;
+        let mut after = (k..shape.p).map(|at| inputs::word(image, shape.unit_at(map, at)));
+        let size = inputs::size_in(shape, image, map).unwrap_or(4096 * k);
+        if k == 0 || after.any(|word| word != X) || size.div_ceil(4096) != k {
             unlinked.insert(chunk);
             continue;
         }

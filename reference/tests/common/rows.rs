@@ -9,8 +9,10 @@
 //! has the input named." (01) The tables of an image can be located when its
 //! numbers keep the limits and fit the slice, even if the tag, the version, a
 //! distance or the length field is wrong; then rows 4 to 6 and what a request
-//! asks of them are judged too. Where the tables cannot be located, a request
-//! counts as bad only if it is bad for every volume.
+//! asks of them are judged too. Where neither edition has tag and version, the
+//! tables are those of the first edition whose numbers fit. Where the tables
+//! cannot be located, a request counts as bad only if it is bad for every
+//! volume of either edition.
 
 use std::collections::BTreeSet;
 
@@ -25,6 +27,9 @@ const UNIT: u64 = 4096;
 pub struct Verdict {
     rows: [Option<(u64, u64)>; 13],
     rules: [bool; 6],
+    /// The edition by tag and version, else the one whose tables were located,
+    /// else 0.
+    pub edition: usize,
     /// What a repair finds.
     pub faults: Faults,
 }
@@ -89,6 +94,7 @@ impl Verdict {
 
 /// The two tables of an image.
 struct Tables {
+    edition: u64,
     p: u64,
     c: u64,
     m: u64,
@@ -97,10 +103,35 @@ struct Tables {
     words: Vec<u64>,
 }
 
+/// "M chunk maps of P words each" (01); "P+1 words for each map" in edition 2
+/// (02, request 4).
+fn words_of_a_map(edition: u64, p: u64) -> u64 {
+    match edition {
+        1 => p,
+        _ => p + 1,
+    }
+}
+
 impl Tables {
+    fn width(&self) -> u64 {
+        words_of_a_map(self.edition, self.p)
+    }
+
+    /// The units of a map, the last P of its words.
     fn map(&self, map: u64) -> &[u64] {
-        let first = (map * self.p) as usize;
-        &self.words[first..first + self.p as usize]
+        let end = ((map + 1) * self.width()) as usize;
+        &self.words[end - self.p as usize..end]
+    }
+
+    /// Whether a size takes this many units: more than one fewer would hold,
+    /// and no more than they hold.
+    fn size_good(&self, map: u64, held: usize) -> bool {
+        if self.edition == 1 {
+            return true;
+        }
+        let size = u128::from(self.words[(map * self.width()) as usize]);
+        let held = held as u128 * u128::from(UNIT);
+        size <= held && size + u128::from(UNIT) > held
     }
 
     /// Chunks that name a map, with its number.
@@ -110,11 +141,14 @@ impl Tables {
             .filter(|&(_, map)| map < self.m)
     }
 
-    /// Whether a map is not "1 to P units below N, then only X" (01).
+    /// Whether a map is not "1 to P units below N, then only X" (01), or in
+    /// edition 2 k is not "equal to the size rounded up in units" (02,
+    /// request 4).
     fn bad_form(&self, map: u64) -> bool {
         let words = self.map(map);
         let held = words.iter().filter(|&&word| word != X).count();
-        held == 0 || words[..held].iter().any(|&word| word >= self.n)
+        let no_unit = words[..held].iter().any(|&word| word >= self.n);
+        held == 0 || no_unit || !self.size_good(map, held)
     }
 
     /// Which units are free: in no named map.
@@ -146,34 +180,89 @@ fn within_limits([p, c, m, n]: [u128; 4]) -> bool {
     p_good && c_good && m_good && n_good
 }
 
+/// The end of an image as the trailer of one edition.
+struct Ending {
+    edition: u64,
+    numbers: [u64; 4],
+    /// "tag and version" (02, request 4) are this edition's.
+    named: bool,
+    /// The numbers keep the limits and make an image of just this length.
+    located: bool,
+    /// Distances and length agree, and what has to be 0 is.
+    agrees: bool,
+}
+
+/// Bytes of an edition's trailer.
+fn trailer_bytes(edition: u64) -> u64 {
+    match edition {
+        1 => 32,
+        _ => 40,
+    }
+}
+
+impl Ending {
+    /// None where the image is shorter than the trailer.
+    fn of(image: &[u8], edition: u64) -> Option<Self> {
+        let bytes = trailer_bytes(edition);
+        let at = image.len().checked_sub(bytes as usize)?;
+        let trailer = &image[at..];
+        let named = trailer[..4] == [0x52, 0x4D, 0x41, 0x50] && number(&trailer[4..6]) == edition;
+        let p = number(&trailer[6..8]);
+        let [c, m, n, to_logical, to_maps, length] =
+            std::array::from_fn(|i| number(&trailer[8 + 4 * i..12 + 4 * i]));
+        let limits = within_limits([p, c, m, n].map(u128::from));
+        let maps = 8 * m * words_of_a_map(edition, p);
+        let fits = image.len() as u64 == 8 * c + maps + bytes;
+        let distances = to_logical == 8 * c + maps && to_maps == maps;
+        let zeros = trailer[32..].iter().all(|&byte| byte == 0);
+        Some(Ending {
+            edition,
+            numbers: [p, c, m, n],
+            named,
+            located: limits && fits,
+            agrees: distances && length == 8 * c + maps + bytes && zeros,
+        })
+    }
+}
+
 /// Rows 1 to 3; answers the tables, if they can be located.
-fn trailer_rows(image: &[u8], verdict: &mut Verdict) -> Option<Tables> {
+///
+/// "The last 32 bytes are tried as edition 1 first, then the last 40 as edition
+/// 2; if neither has tag and version, 2." (02, request 4) For the converter an
+/// image of edition 2 gives 2 as well.
+fn trailer_rows(image: &[u8], converted: bool, verdict: &mut Verdict) -> Option<Tables> {
     if image.len() < 32 {
         // No trailer is there, so no other row of the image can hold.
         verdict.hold(1, 0);
         return None;
     }
-    let trailer = &image[image.len() - 32..];
-    if trailer[..4] != [0x52, 0x4D, 0x41, 0x50] || number(&trailer[4..6]) != 1 {
+    let endings: Vec<Ending> = [1, 2]
+        .into_iter()
+        .filter_map(|edition| Ending::of(image, edition))
+        .collect();
+    let named = endings.iter().find(|ending| ending.named);
+    if named.is_none_or(|ending| converted && ending.edition == 2) {
         verdict.hold(2, 0);
     }
-    let p = number(&trailer[6..8]);
-    let [c, m, n, to_logical, to_maps, length] =
-        std::array::from_fn(|i| number(&trailer[8 + 4 * i..12 + 4 * i]));
-    let limits = within_limits([p, c, m, n].map(u128::from));
-    let whole = 8 * c + 8 * m * p + 32;
-    let fits = image.len() as u64 == whole;
-    let agrees = to_logical == whole - 32 && to_maps == 8 * m * p && length == whole;
-    if !limits || !fits || !agrees {
+    let read = named.or_else(|| endings.iter().find(|ending| ending.located));
+    let Some(ending) = read else {
+        verdict.hold(3, 0);
+        return None;
+    };
+    verdict.edition = ending.edition as usize;
+    if !ending.located || !ending.agrees {
         verdict.hold(3, 0);
     }
-    if !limits || !fits {
+    if !ending.located {
         return None;
     }
 
-    let mut words: Vec<u64> = image[..image.len() - 32].chunks(8).map(number).collect();
+    let [p, c, m, n] = ending.numbers;
+    let tables = image.len() - trailer_bytes(ending.edition) as usize;
+    let mut words: Vec<u64> = image[..tables].chunks(8).map(number).collect();
     let maps = words.split_off(c as usize);
     Some(Tables {
+        edition: ending.edition,
         p,
         c,
         m,
@@ -297,16 +386,27 @@ fn size_row(tables: Option<&Tables>, size: u64) -> bool {
 /// The rows that hold of a case.
 pub fn judge(case: &Case) -> Verdict {
     let mut verdict = Verdict::default();
-    if let Call::Format { p, c, m, n } = case.call {
-        let [p, c, m, n] = [p, c, m, n].map(u128::from);
+    let format = match case.call {
+        Call::Format { p, c, m, n } => Some((1, [p, c, m, n], 0)),
+        Call::Format2 { p, c, m, n, r } => Some((2, [p, c, m, n], r)),
+        _ => None,
+    };
+    if let Some((edition, numbers, r)) = format {
+        let [p, c, m, n] = numbers.map(u128::from);
         let limits = within_limits([p, c, m, n]);
-        if !limits || case.image.len() as u128 != 8 * c + 8 * m * p + 32 {
+        let len = match edition {
+            1 => 8 * c + 8 * m * p + 32,
+            _ => 8 * c + 8 * m * (p + 1) + 40,
+        };
+        if !limits || case.image.len() as u128 != len || r != 0 {
             verdict.hold(3, 0);
         }
+        verdict.edition = edition;
         return verdict;
     }
 
-    let tables = trailer_rows(&case.image, &mut verdict);
+    let converted = matches!(case.call, Call::Convert);
+    let tables = trailer_rows(&case.image, converted, &mut verdict);
     let tables = tables.as_ref();
     match tables {
         // "Answers 1 to 3 still refuse." (02, request 3) Rows 4 to 6 are what
@@ -317,8 +417,8 @@ pub fn judge(case: &Case) -> Verdict {
     }
     let lent = case.out.len() as u64;
     match case.call {
-        Call::Format { .. } => unreachable!("judged above"),
-        Call::Report | Call::AlarmCount { .. } => {}
+        Call::Format { .. } | Call::Format2 { .. } => unreachable!("judged above"),
+        Call::Report | Call::AlarmCount { .. } | Call::Shape => {}
         Call::Load => {
             if lent < 648 {
                 verdict.hold(10, 648);
@@ -345,7 +445,7 @@ pub fn judge(case: &Case) -> Verdict {
                 verdict.hold(7, 0);
             }
         }
-        Call::Held { chunk } => {
+        Call::Held { chunk } | Call::StoredSize { chunk } => {
             if chunk_row(tables, chunk) {
                 verdict.hold(7, 0);
             }
@@ -367,7 +467,7 @@ pub fn judge(case: &Case) -> Verdict {
             }
             // A size out of range has no plan; the shortest one stands in.
             let k = if bad_size { 1 } else { k };
-            let needed = 16 * (k + tables.map_or(2, |t| t.p) + 3);
+            let needed = 16 * (k + tables.map_or(2, Tables::width) + 3);
             if lent < needed {
                 verdict.hold(10, needed);
             }
@@ -407,6 +507,21 @@ pub fn judge(case: &Case) -> Verdict {
                 verdict.hold(10, needed);
             }
         }
+        // "a buffer not of exactly the new length gives 10" (02, request 4).
+        Call::Convert => match tables {
+            Some(tables) => {
+                let needed = 8 * tables.c + 8 * tables.m * (tables.p + 1) + 40;
+                if lent != needed {
+                    verdict.hold(10, needed);
+                }
+            }
+            // No image of edition 2 is so short or so long, or has part words.
+            None => {
+                if !(96..=41_256).contains(&lent) || !lent.is_multiple_of(8) {
+                    verdict.hold(10, 96);
+                }
+            }
+        },
     }
     verdict
 }
@@ -439,7 +554,7 @@ fn plan_rows(
     verdict.rules[1] = shapeless || steps.iter().any(|step| !step_good(tables, step));
     if let (Some(tables), false, false) = (tables, bad_chunk, bad_size) {
         match size {
-            Some(size) => write_rules(tables, chunk, size.div_ceil(UNIT), &steps, verdict),
+            Some(size) => write_rules(tables, chunk, size, &steps, verdict),
             None => discard_rules(tables, chunk, &steps, verdict),
         }
     }
@@ -448,13 +563,26 @@ fn plan_rows(
     }
 }
 
-/// Rule 1 of one step; without the tables, against the largest volume.
+/// Rule 1 of one step; without the tables, against the largest volume of
+/// either edition.
 fn step_good(tables: Option<&Tables>, step: &[u32; 4]) -> bool {
-    let (p, c, m, n) = tables.map_or((16, 256, 288, 4608), |t| (t.p, t.c, t.m, t.n));
+    match tables {
+        Some(t) => step_good_in(t.edition, [t.p, t.c, t.m, t.n], step),
+        None => [1, 2]
+            .into_iter()
+            .any(|edition| step_good_in(edition, [16, 256, 288, 4608], step)),
+    }
+}
+
+fn step_good_in(edition: u64, [p, c, m, n]: [u64; 4], step: &[u32; 4]) -> bool {
     let [kind, a, b, d] = step.map(u64::from);
     let absent = step[3] == X32;
     match kind {
         1 => a < n && b < p && d == 0,
+        // "MAP words run from 0 to P: word 0 holds 1 to P·4,096 (rule 1)" (02,
+        // request 4).
+        2 if edition == 2 && b == 0 => a < m && 1 <= d && d <= p * UNIT,
+        2 if edition == 2 => a < m && b <= p && (d < n || absent),
         2 => a < m && b < p && (d < n || absent),
         3 => a < c && b == 0 && (d < m || absent),
         4 => a == 0 && b == 0 && d == 0,
@@ -473,13 +601,12 @@ fn sorted(numbers: impl Iterator<Item = u32>) -> Vec<u32> {
     numbers
 }
 
-fn write_rules(tables: &Tables, chunk: u64, k: u64, steps: &[[u32; 4]], verdict: &mut Verdict) {
+fn write_rules(tables: &Tables, chunk: u64, size: u64, steps: &[[u32; 4]], verdict: &mut Verdict) {
     let data = of_kind(steps, 1);
     let maps = of_kind(steps, 2);
     let links = of_kind(steps, 3);
     let fences = of_kind(steps, 4);
-    let k = k as u32;
-    let p = tables.p as u32;
+    let k = size.div_ceil(UNIT) as u32;
 
     // 2: "pieces 0 to k-1 once each, no other, on different free units."
     let pieces = sorted(data.iter().map(|(_, step)| step[2]));
@@ -492,21 +619,28 @@ fn write_rules(tables: &Tables, chunk: u64, k: u64, steps: &[[u32; 4]], verdict:
     verdict.rules[2] = !pieces.into_iter().eq(0..k) || !all_free || !different;
 
     // 3: "all MAP steps on one free map, each word 0 to P-1 once; word j is
-    // piece j's unit for j below k, else X."
+    // piece j's unit for j below k, else X." (01) "word 0 holds [..] the
+    // request's size (rule 3), and word j+1 is piece j's unit or X." (02,
+    // request 4)
     let one_map = maps.windows(2).all(|pair| pair[0].1[1] == pair[1].1[1]);
     let the_map = maps.first().map(|(_, step)| step[1]).filter(|_| one_map);
     let named = |map: u32| tables.entries.contains(&u64::from(map));
     let free_map = the_map.is_some_and(|map| u64::from(map) < tables.m && !named(map));
     let each_word = sorted(maps.iter().map(|(_, step)| step[2]))
         .into_iter()
-        .eq(0..p);
+        .eq(0..tables.width() as u32);
     let word_good = |step: &[u32; 4]| {
-        if step[2] >= k {
+        let piece = match (tables.edition, step[2]) {
+            (1, word) => word,
+            (_, 0) => return u64::from(step[3]) == size,
+            (_, word) => word - 1,
+        };
+        if piece >= k {
             return step[3] == X32;
         }
         let mut units = data
             .iter()
-            .filter(|(_, data)| data[2] == step[2])
+            .filter(|(_, data)| data[2] == piece)
             .map(|(_, data)| data[1])
             .peekable();
         units.peek().is_some() && units.all(|unit| unit == step[3])

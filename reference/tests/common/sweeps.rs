@@ -1,24 +1,23 @@
 //! Small scopes gone through completely: every case of a kind on the worked
-//! example of 01, on small volumes or, for what is free and what is repaired,
-//! on the largest one, without chance.
+//! example of 01 in both editions, on small volumes or, for what is free and
+//! what is repaired, on the largest one, without chance.
 
-use sumbilak_reference::inputs::{self, Fields, Shape, FENCE, TWO_32, X, X32};
-use sumbilak_reference::model;
+use sumbilak_reference::inputs::{self, Edition, Fields, Shape, FENCE, TWO_32, X, X32};
+use sumbilak_reference::model::{self, UNIT};
 
 use super::cases::{Call, Case};
+use Edition::{One, Two};
 
-const SHAPE: Shape = Shape {
-    p: 4,
-    c: 4,
-    m: 5,
-    n: 20,
-};
+/// The worked example's geometry: 224 bytes, and 272 in edition 2.
+const fn small(edition: Edition) -> Shape {
+    Shape::one(4, 4, 5, 20).in_edition(edition)
+}
 
 /// A sweep hands each of its cases to the given function.
 pub type Sweep = fn(&mut dyn FnMut(Case));
 
 /// Every sweep, by name.
-pub const ALL: [(&str, Sweep); 21] = [
+pub const ALL: [(&str, Sweep); 30] = [
     ("format and load, around every limit", limits),
     ("load, every value of every byte", load_bytes),
     ("load, two words of the tables", load_words),
@@ -40,6 +39,21 @@ pub const ALL: [(&str, Sweep); 21] = [
     ("repair, three chunks, every word", repair_three),
     ("repair, two chunks, every word", repair_two),
     ("repair, every chunk of the largest volume", repair_largest),
+    ("repair, every size and word of two chunks", repair_sizes),
+    ("load and convert, every two trailers", trailers),
+    ("stored_size, every value of every byte", size_bytes),
+    (
+        "stored_size and load, every size at a unit's edge",
+        size_edges,
+    ),
+    ("plan_write and check_write, every size's edge", plan_edges),
+    ("convert, every value of every byte", convert_bytes),
+    ("convert, every length", convert_lengths),
+    ("convert, every buffer", convert_buffers),
+    (
+        "convert, every number of units of each chunk",
+        convert_units,
+    ),
 ];
 
 fn case(call: Call, image: Vec<u8>) -> Case {
@@ -60,7 +74,7 @@ fn load(image: Vec<u8>) -> Case {
 }
 
 fn write(image: &mut [u8], chunk: u64, size: u64) {
-    let mut out = [0; 16 * 35];
+    let mut out = [0; inputs::LONGEST_PLAN];
     let steps = model::plan_write(image, chunk, size, &mut out).expect("room");
     let plan = &out[..16 * steps as usize];
     model::carry_write(image, chunk, size, plan, steps).expect("the planner's plan");
@@ -68,26 +82,33 @@ fn write(image: &mut [u8], chunk: u64, size: u64) {
 
 /// The example before its third write: chunk 0 on unit 2 by map 1, chunk 2 on
 /// units 0 and 1 by map 0.
-fn example() -> Vec<u8> {
-    let mut image = inputs::fresh(&SHAPE);
+fn example(edition: Edition) -> Vec<u8> {
+    let mut image = inputs::fresh(&small(edition));
     write(&mut image, 2, 6144);
     write(&mut image, 0, 3072);
     image
 }
 
-/// The third write's plan.
-fn third_plan() -> Vec<Fields> {
-    inputs::assemble(&SHAPE, 0, &[3, 4], 2)
+/// The example after it: chunk 0 on units 3 and 4 by map 2.
+fn worked(edition: Edition) -> Vec<u8> {
+    let mut image = example(edition);
+    write(&mut image, 0, 5120);
+    image
 }
 
-fn check_third(steps: &[Fields]) -> Case {
+/// The third write's plan.
+fn third_plan(edition: Edition) -> Vec<Fields> {
+    inputs::assemble(&small(edition), 0, 5120, &[3, 4], 2)
+}
+
+fn check_third(edition: Edition, steps: &[Fields]) -> Case {
     let call = Call::CheckWrite {
         chunk: 0,
         size: 5120,
     };
     Case {
         plan: inputs::encode(steps),
-        ..case(call, example())
+        ..case(call, example(edition))
     }
 }
 
@@ -100,10 +121,21 @@ fn limits(give: &mut dyn FnMut(Case)) {
                 let full = p * m;
                 for n in [0, p, p + 1, (c + 1) * p, full, full + 1, 4608, 4609] {
                     for n in [n, n.saturating_sub(1)] {
-                        let image = inputs::blank(&Shape { p, c, m, n });
-                        give(load(image.clone()));
+                        let one = Shape::one(p, c, m, n);
+                        let image = inputs::blank(&one);
                         let buffer = vec![0xA5; image.len()];
+                        give(load(image));
                         give(case(Call::Format { p, c, m, n }, buffer));
+                        let image = inputs::blank(&one.in_edition(Two));
+                        let buffer = vec![0xA5; image.len()];
+                        give(case(Call::Shape, image));
+                        let r = 0;
+                        give(case(Call::Format2 { p, c, m, n, r }, buffer.clone()));
+                        for r in [1, p, n, TWO_32, u64::MAX] {
+                            if c == 2 && m == 3 && r > 0 {
+                                give(case(Call::Format2 { p, c, m, n, r }, buffer.clone()));
+                            }
+                        }
                     }
                 }
             }
@@ -123,14 +155,18 @@ fn every_byte(image: &[u8], give: &mut dyn FnMut(Vec<u8>)) {
 }
 
 /// An image of the example's shape with twelve values in every two words of its
-/// tables.
-fn two_words(image: &[u8], give: &mut dyn FnMut(Vec<u8>)) {
-    let words = SHAPE.image_len() / 8 - 4;
-    let values = [0, 1, 2, 3, 4, 5, 19, 20, TWO_32 - 1, TWO_32 + 1, X - 1, X];
+/// tables, in edition 2 with sixteen.
+fn two_words(edition: Edition, image: &[u8], give: &mut dyn FnMut(Vec<u8>)) {
+    let shape = small(edition);
+    let words = (shape.image_len() - shape.trailer_len()) / 8;
+    let mut values = vec![0, 1, 2, 3, 4, 5, 19, 20, TWO_32 - 1, TWO_32 + 1, X - 1, X];
+    if edition == Two {
+        values.extend([4096, 4097, 8192, 8193]);
+    }
     for first in 0..words {
         for second in first + 1..words {
-            for a in values {
-                for b in values {
+            for &a in &values {
+                for &b in &values {
                     let mut image = image.to_vec();
                     inputs::put_word(&mut image, 8 * first, a);
                     inputs::put_word(&mut image, 8 * second, b);
@@ -153,25 +189,35 @@ fn every_length(image: &[u8], give: &mut dyn FnMut(Vec<u8>)) {
 }
 
 fn load_bytes(give: &mut dyn FnMut(Case)) {
-    every_byte(&example(), &mut |image| give(load(image)));
+    every_byte(&example(One), &mut |image| give(load(image)));
+    every_byte(&worked(Two), &mut |image| give(load(image)));
 }
 
 fn load_words(give: &mut dyn FnMut(Case)) {
-    two_words(&example(), &mut |image| give(load(image)));
+    two_words(One, &example(One), &mut |image| give(load(image)));
+    two_words(Two, &worked(Two), &mut |image| give(load(image)));
 }
 
 fn load_lengths(give: &mut dyn FnMut(Case)) {
-    every_length(&example(), &mut |image| give(load(image)));
-    for words in 0..100 {
-        let mut case = load(example());
-        case.out.resize(8 * words, 0xA5);
-        give(case);
+    for edition in Edition::ALL {
+        every_length(&example(edition), &mut |image| give(load(image)));
+        for words in 0..100 {
+            let mut case = load(example(edition));
+            case.out.resize(8 * words, 0xA5);
+            give(case);
+        }
     }
 }
 
 /// All ranges in half units, to one chunk past the end.
 fn ranges(give: &mut dyn FnMut(Case)) {
-    let image = example();
+    for edition in Edition::ALL {
+        ranges_of(&example(edition), give);
+    }
+}
+
+fn ranges_of(image: &[u8], give: &mut dyn FnMut(Case)) {
+    let image = image.to_vec();
     for offset in (0..=40).map(|half| half * 2048) {
         for length in (0..=40).map(|half| half * 2048) {
             for room in [0, 11, 12, 35, 36, 47, 48, 60] {
@@ -193,26 +239,39 @@ fn ranges(give: &mut dyn FnMut(Case)) {
 }
 
 fn plan_bytes(give: &mut dyn FnMut(Case)) {
-    let plan = inputs::encode(&third_plan());
-    for at in 0..plan.len() {
-        for value in 0..=255 {
-            let mut case = check_third(&[]);
-            case.plan = plan.clone();
-            case.plan[at] = value;
+    for edition in Edition::ALL {
+        let plan = inputs::encode(&third_plan(edition));
+        for at in 0..plan.len() {
+            for value in 0..=255 {
+                let mut case = check_third(edition, &[]);
+                case.plan = plan.clone();
+                case.plan[at] = value;
+                give(case);
+            }
+        }
+        for len in 0..plan.len() {
+            let mut case = check_third(edition, &[]);
+            case.plan = plan[..len].to_vec();
             give(case);
         }
-    }
-    for len in 0..plan.len() {
-        let mut case = check_third(&[]);
-        case.plan = plan[..len].to_vec();
-        give(case);
+        // Made for the other edition.
+        for other in Edition::ALL {
+            give(check_third(edition, &third_plan(other)));
+        }
     }
 }
 
 /// Every subset of the steps, every two steps swapped, every step moved or
 /// repeated elsewhere, every step replaced by another, fences anywhere.
 fn plan_orders(give: &mut dyn FnMut(Case)) {
-    let steps = third_plan();
+    for edition in Edition::ALL {
+        plan_orders_of(edition, give);
+    }
+}
+
+fn plan_orders_of(edition: Edition, give: &mut dyn FnMut(Case)) {
+    let steps = third_plan(edition);
+    let check_third = |steps: &[Fields]| check_third(edition, steps);
     for subset in 0..1u32 << steps.len() {
         let kept = |at: &usize| subset >> at & 1 != 0;
         let some: Vec<Fields> = (0..steps.len()).filter(kept).map(|at| steps[at]).collect();
@@ -263,7 +322,6 @@ fn discards(give: &mut dyn FnMut(Case)) {
         [2, 3, 0, 5],
         [4, 0, 0, 1],
     ];
-    let image = example();
     let mut plans: Vec<Vec<Fields>> = vec![Vec::new()];
     let mut from = 0;
     for _ in 0..4 {
@@ -281,21 +339,29 @@ fn discards(give: &mut dyn FnMut(Case)) {
         plans.extend(longer);
     }
     for plan in plans {
-        for chunk in [0, 1] {
+        for (edition, chunk) in Edition::ALL.into_iter().flat_map(|e| [(e, 0), (e, 1)]) {
             give(Case {
                 plan: inputs::encode(&plan),
-                ..case(Call::CheckDiscard { chunk }, image.clone())
+                ..case(Call::CheckDiscard { chunk }, example(edition))
             });
         }
     }
 }
 
 /// Each prefix of the third write's plan with every order of its first six
-/// steps turned by one place, and of a discard's.
+/// steps (seven in edition 2) turned by one place, and of a discard's.
 fn carries(give: &mut dyn FnMut(Case)) {
-    for turn in 0..6 {
-        let mut steps = third_plan();
-        steps[..6].rotate_left(turn);
+    for edition in Edition::ALL {
+        carries_of(edition, give);
+    }
+}
+
+fn carries_of(edition: Edition, give: &mut dyn FnMut(Case)) {
+    let example = || example(edition);
+    let stores = third_plan(edition).len() - 3;
+    for turn in 0..stores {
+        let mut steps = third_plan(edition);
+        steps[..stores].rotate_left(turn);
         for n in 0..=steps.len() as u64 + 2 {
             let call = Call::CarryWrite {
                 chunk: 0,
@@ -320,7 +386,13 @@ fn carries(give: &mut dyn FnMut(Case)) {
 }
 
 fn outputs(give: &mut dyn FnMut(Case)) {
-    let image = example();
+    for edition in Edition::ALL {
+        outputs_of(&example(edition), give);
+    }
+}
+
+fn outputs_of(image: &[u8], give: &mut dyn FnMut(Case)) {
+    let image = image.to_vec();
     for size in [0, 1, 4096, 4097, 8192, 12_288, 16_384, 16_385] {
         for room in 0..200 {
             give(Case {
@@ -341,19 +413,19 @@ fn outputs(give: &mut dyn FnMut(Case)) {
 
 /// Small volumes with each chunk on none to P units, in every way that N units
 /// allow. The maps that no chunk names hold X, or name a unit as well.
-fn reports(give: &mut dyn FnMut(Case)) {
-    for p in 2..=5u64 {
+fn every_volume(edition: Edition, most: u64, give: &mut dyn FnMut(Vec<u8>)) {
+    for p in 2..=most {
         for c in 1..=4 {
             let m = c + 1;
             for n in [p, c * p, m * p] {
-                let shape = Shape { p, c, m, n };
+                let shape = Shape::one(p, c, m, n).in_edition(edition);
                 // The digits of a number to base P+1 are the chunks' units.
                 for number in 0..(p + 1).pow(c as u32) {
                     let digit = |chunk: u64| number / (p + 1).pow(chunk as u32) % (p + 1);
                     let units: Vec<u64> = (0..c).map(digit).collect();
                     if units.iter().sum::<u64>() <= n {
-                        give(case(Call::Report, volume(&shape, &units, X)));
-                        give(case(Call::Report, volume(&shape, &units, 0)));
+                        give(volume(&shape, &units, X));
+                        give(volume(&shape, &units, 0));
                     }
                 }
             }
@@ -361,12 +433,17 @@ fn reports(give: &mut dyn FnMut(Case)) {
     }
 }
 
+fn reports(give: &mut dyn FnMut(Case)) {
+    every_volume(One, 5, &mut |image| give(case(Call::Report, image)));
+    every_volume(Two, 4, &mut |image| give(case(Call::Report, image)));
+}
+
 /// Each chunk on so many units, rising, by a map of its own, falling; `dead` in
 /// every word of the other maps.
 fn volume(shape: &Shape, units: &[u64], dead: u64) -> Vec<u8> {
     let mut image = inputs::fresh(shape);
     for map in 0..shape.m {
-        for word in 0..shape.p {
+        for word in 0..shape.map_words() {
             inputs::put_word(&mut image, shape.word_at(map, word), dead);
         }
     }
@@ -374,10 +451,9 @@ fn volume(shape: &Shape, units: &[u64], dead: u64) -> Vec<u8> {
     for (chunk, &count) in (0..).zip(units).filter(|&(_, &count)| count > 0) {
         let map = shape.m - 1 - chunk;
         inputs::put_entry(&mut image, chunk, map);
-        for word in 0..shape.p {
-            let unit = if word < count { next + word } else { X };
-            inputs::put_word(&mut image, shape.word_at(map, word), unit);
-        }
+        let held: Vec<u64> = (next..next + count).collect();
+        // A size of its own for each chunk, up to the last byte.
+        inputs::put_map(shape, &mut image, map, UNIT * count - chunk, &held);
         next += count;
     }
     image
@@ -388,6 +464,13 @@ fn volume(shape: &Shape, units: &[u64], dead: u64) -> Vec<u8> {
 /// one is in the next word, or none.
 fn lowest_unit(give: &mut dyn FnMut(Case)) {
     for lowest in 0..=4096u64 {
+        if lowest.is_multiple_of(13) {
+            // The same sets in edition 2: the sizes are in none of them.
+            let two = largest(4608).in_edition(Two);
+            let all_above = inputs::with_free(&two, |unit| unit >= lowest);
+            give(plan(&all_above, 16));
+            give(load(all_above));
+        }
         let all_above = inputs::with_free(&largest(4608), |unit| unit >= lowest);
         give(plan(&all_above, 1));
         if lowest % 64 > 48 {
@@ -459,7 +542,7 @@ fn lowest_map(give: &mut dyn FnMut(Case)) {
             (c, c + 1, &below),
         ] {
             let n = 16 * m;
-            let shape = Shape { p: 16, c, m, n };
+            let shape = Shape::one(16, c, m, n);
             let units: Vec<u64> = (0..n).rev().take(maps.len()).collect();
             let image = inputs::holding(&shape, &units, maps);
             give(plan(&image, 1));
@@ -470,12 +553,7 @@ fn lowest_map(give: &mut dyn FnMut(Case)) {
 
 /// The largest shape, with so many units. Its chunks hold at most 4,096.
 fn largest(n: u64) -> Shape {
-    Shape {
-        p: 16,
-        c: 256,
-        m: 288,
-        n,
-    }
+    Shape::one(16, 256, 288, n)
 }
 
 /// A write of k units to chunk 0, which is unmapped where any chunk is.
@@ -485,7 +563,7 @@ fn plan(image: &[u8], k: u64) -> Case {
         size: k * model::UNIT,
     };
     Case {
-        out: vec![0xA5; 16 * 35],
+        out: vec![0xA5; inputs::LONGEST_PLAN],
         ..case(call, image.to_vec())
     }
 }
@@ -513,28 +591,33 @@ fn repair(image: Vec<u8>) -> Case {
 }
 
 fn repair_bytes(give: &mut dyn FnMut(Case)) {
-    every_byte(&example(), &mut |image| give(repair(image)));
+    every_byte(&example(One), &mut |image| give(repair(image)));
+    every_byte(&worked(Two), &mut |image| give(repair(image)));
 }
 
 fn repair_words(give: &mut dyn FnMut(Case)) {
-    two_words(&example(), &mut |image| give(repair(image)));
+    two_words(One, &example(One), &mut |image| give(repair(image)));
+    two_words(Two, &worked(Two), &mut |image| give(repair(image)));
 }
 
 fn repair_lengths(give: &mut dyn FnMut(Case)) {
-    every_length(&example(), &mut |image| give(repair(image)));
+    for edition in Edition::ALL {
+        every_length(&example(edition), &mut |image| give(repair(image)));
+    }
 }
 
 /// Every set of chunks with a bad link, by itself and on top of a shared map;
 /// every room for the list up to one chunk more than there are.
 fn repair_lists(give: &mut dyn FnMut(Case)) {
-    for bad in 0..1u32 << SHAPE.c {
-        for sharing in [false, true] {
-            let mut image = example();
+    for edition in Edition::ALL {
+        let Shape { c, m, .. } = small(edition);
+        for (bad, sharing) in (0..1u32 << c).flat_map(|bad| [(bad, false), (bad, true)]) {
+            let mut image = example(edition);
             if sharing {
                 inputs::put_entry(&mut image, 3, 0);
             }
-            for chunk in (0..SHAPE.c).filter(|chunk| bad >> chunk & 1 != 0) {
-                inputs::put_entry(&mut image, chunk, SHAPE.m);
+            for chunk in (0..c).filter(|chunk| bad >> chunk & 1 != 0) {
+                inputs::put_entry(&mut image, chunk, m);
             }
             for room in 0..=20 {
                 give(repair_in(room, image.clone()));
@@ -544,12 +627,13 @@ fn repair_lists(give: &mut dyn FnMut(Case)) {
 }
 
 /// Every link of each chunk (one of the first C maps, a bad one, X) with every
-/// word of the maps that are named (one of `words`). A map that no chunk names
-/// holds litter.
-fn every_table(shape: &Shape, words: &[u64], give: &mut dyn FnMut(Case)) {
-    let Shape { p, c, m, n } = *shape;
+/// word of the maps that are named: a unit one of `words`, a size one of
+/// `sizes`. A map that no chunk names holds litter.
+fn every_table(shape: &Shape, words: &[u64], sizes: &[u64], give: &mut dyn FnMut(Case)) {
+    let Shape { c, m, n, .. } = *shape;
     let mut litter = inputs::fresh(shape);
-    for (at, value) in (0..m * p).zip([0, n, 1, X, X - 1, 0].into_iter().cycle()) {
+    let all_words = 0..m * shape.map_words();
+    for (at, value) in all_words.zip([0, n, 1, X, X - 1, 0].into_iter().cycle()) {
         inputs::put_word(&mut litter, shape.word_at(0, at), value);
     }
     let links: Vec<u64> = (0..c).chain([m, X]).collect();
@@ -561,16 +645,28 @@ fn every_table(shape: &Shape, words: &[u64], give: &mut dyn FnMut(Case)) {
             inputs::put_entry(&mut image, chunk, link);
         }
         let named = |map: &u64| (0..c).any(|chunk| inputs::entry(&image, chunk) == *map);
-        let places: Vec<usize> = (0..c)
+        let places: Vec<(usize, &[u64])> = (0..c)
             .filter(named)
-            .flat_map(|map| (0..p).map(move |word| shape.word_at(map, word)))
+            .flat_map(|map| (0..shape.map_words()).map(move |word| (map, word)))
+            .map(|(map, word)| {
+                let is_size = word < shape.size_words();
+                let values = if is_size { sizes } else { words };
+                (shape.word_at(map, word), values)
+            })
             .collect();
-        for choice in 0..words.len().pow(places.len() as u32) {
-            for (at, &place) in (0..).zip(&places) {
-                let value = words[digit(choice, words.len(), at)];
-                inputs::put_word(&mut image, place, value);
+        // Every value at every place: the last digit is the slowest.
+        let mut digits = vec![0; places.len()];
+        loop {
+            for (&(place, values), &digit) in places.iter().zip(&digits) {
+                inputs::put_word(&mut image, place, values[digit]);
             }
             give(repair(image.clone()));
+            let more = |at: &usize| digits[*at] + 1 < places[*at].1.len();
+            let Some(at) = (0..places.len()).find(more) else {
+                break;
+            };
+            digits[at] += 1;
+            digits[..at].fill(0);
         }
     }
 }
@@ -579,34 +675,40 @@ fn every_table(shape: &Shape, words: &[u64], give: &mut dyn FnMut(Case)) {
 /// maps and units, next to bad ones. A word is one of the three units there
 /// are, the least number that is none, or X.
 fn repair_three(give: &mut dyn FnMut(Case)) {
-    let shape = Shape {
-        p: 2,
-        c: 3,
-        m: 4,
-        n: 3,
-    };
-    every_table(&shape, &[0, 1, 2, 3, X], give);
+    every_table(&Shape::one(2, 3, 4, 3), &[0, 1, 2, 3, X], &[], give);
 }
 
 /// Two chunks of three words: every form of a map beside every other.
 fn repair_two(give: &mut dyn FnMut(Case)) {
-    let shape = Shape {
-        p: 3,
-        c: 2,
-        m: 3,
-        n: 3,
-    };
-    every_table(&shape, &[0, 1, 3, X], give);
+    every_table(&Shape::one(3, 2, 3, 3), &[0, 1, 3, X], &[], give);
+}
+
+/// The same in edition 2, two words each: every form of a map with every size
+/// at the edge of its units.
+fn repair_sizes(give: &mut dyn FnMut(Case)) {
+    let shape = Shape::one(2, 2, 3, 2).in_edition(Two);
+    let sizes = [0, 1, 4096, 4097, 8192, 8193, TWO_32 + 1, X];
+    every_table(&shape, &[0, 1, 2, X], &sizes, give);
 }
 
 /// A volume of the largest shape, all chunks raw: each chunk at fault by itself
 /// in each way, or with the next one; then all of them at once.
 fn repair_largest(give: &mut dyn FnMut(Case)) {
+    // In edition 2 each chunk is at fault by its size.
+    let two = largest(4608).in_edition(Two);
+    let full = inputs::with_free(&two, |unit| unit < 512);
+    for chunk in 0..two.c {
+        let mut image = full.clone();
+        let at = two.word_at(inputs::entry(&full, chunk), 0);
+        inputs::put_word(&mut image, at, 15 * UNIT);
+        give(repair_in(4, image));
+    }
+
     let shape = largest(4608);
     // The highest units are held, and the lowest free.
     let full = inputs::with_free(&shape, |unit| unit < 512);
     // Byte position and value of a word of a chunk's map.
-    let place = |chunk: u64, word: u64| shape.word_at(inputs::entry(&full, chunk), word);
+    let place = |chunk: u64, word: u64| shape.unit_at(inputs::entry(&full, chunk), word);
     let unit = |chunk: u64, word: u64| inputs::word(&full, place(chunk, word));
     let next = |chunk: u64| (chunk + 1) % shape.c;
     let with = |at: usize, value: u64| {
@@ -651,4 +753,169 @@ fn repair_largest(give: &mut dyn FnMut(Case)) {
             give(repair_in(room, image.clone()));
         }
     }
+}
+
+/// Every pair of what the last 32 and the last 40 bytes may begin with, on an
+/// image of either edition: the tag or another, each version from 0 to 3. The
+/// last map of edition 1, in which edition 2's would stand, is named or not.
+fn trailers(give: &mut dyn FnMut(Case)) {
+    let mut named = worked(One);
+    let shape = small(One);
+    inputs::put_entry(&mut named, 3, 4);
+    inputs::put_units(&shape, &mut named, 4, &[16, 17, 18, 19]);
+    let tags = [*b"RMAP", *b"RMAQ"];
+    let starts = || {
+        tags.into_iter()
+            .flat_map(|tag| (0..4u8).map(move |v| (tag, v)))
+    };
+    for image in [worked(One), named, worked(Two)] {
+        for (tag, version) in starts() {
+            for (tag2, version2) in starts() {
+                let mut image = image.clone();
+                for (back, tag, version) in [(40, tag2, version2), (32, tag, version)] {
+                    let at = image.len() - back;
+                    image[at..at + 4].copy_from_slice(&tag);
+                    image[at + 4..at + 6].copy_from_slice(&[version, 0]);
+                }
+                give(load(image.clone()));
+                give(case(Call::Shape, image.clone()));
+                give(convert_to(272, image.clone()));
+                give(repair(image));
+            }
+        }
+    }
+    // 32 to 47 bytes that begin with a tag, or have it at either place.
+    for len in 24..48 {
+        for version in 0..4 {
+            for at in [0, len - 24, len - 32.min(len)] {
+                let mut image = vec![0; len];
+                let start = [b'R', b'M', b'A', b'P', version, 0];
+                let end = len.min(at + 6);
+                image[at..end].copy_from_slice(&start[..end - at]);
+                give(load(image.clone()));
+                give(convert_to(272, image));
+            }
+        }
+    }
+}
+
+/// Sizes of chunks that are mapped, and of one that is not, with every value in
+/// every byte.
+fn size_bytes(give: &mut dyn FnMut(Case)) {
+    for (image, chunk) in [(worked(Two), 0), (worked(Two), 2), (example(One), 0)] {
+        every_byte(&image, &mut |image| {
+            give(case(Call::StoredSize { chunk }, image));
+        });
+    }
+    for edition in Edition::ALL {
+        for chunk in [0, 1, 2, 3, 4, 5, TWO_32, TWO_32 + 2, u64::MAX] {
+            give(case(Call::StoredSize { chunk }, worked(edition)));
+        }
+        every_length(&worked(edition), &mut |image| {
+            give(case(Call::StoredSize { chunk: 2 }, image));
+        });
+    }
+}
+
+/// The sizes around the edges of 0 to P+1 units, and what a narrower reading
+/// would take for one of them.
+fn edges(p: u64) -> impl Iterator<Item = u64> {
+    let near = (0..=p + 1).flat_map(|k| [k * UNIT, k * UNIT + 1, (k * UNIT).wrapping_sub(1)]);
+    near.flat_map(|size| [size, TWO_32.wrapping_add(size), (1 << 63) | size])
+}
+
+/// Every number of units with every size at a unit's edge.
+fn size_edges(give: &mut dyn FnMut(Case)) {
+    for p in 2..=16 {
+        let shape = Shape::one(p, 2, 3, 2 * p).in_edition(Two);
+        for k in 1..=p {
+            let units: Vec<u64> = (p..p + k).collect();
+            for size in edges(p) {
+                let mut image = inputs::fresh(&shape);
+                inputs::put_entry(&mut image, 1, 2);
+                inputs::put_map(&shape, &mut image, 2, size, &units);
+                give(case(Call::StoredSize { chunk: 1 }, image.clone()));
+                if p < 5 {
+                    give(load(image));
+                }
+            }
+        }
+    }
+}
+
+/// Plans for every size at a unit's edge, in both editions; the planner's own
+/// plan is then checked for the same size and for those beside it.
+fn plan_edges(give: &mut dyn FnMut(Case)) {
+    for (p, edition) in (2..=16).flat_map(|p| Edition::ALL.map(|edition| (p, edition))) {
+        let image = inputs::fresh(&Shape::one(p, 1, 2, 2 * p).in_edition(edition));
+        for size in edges(p) {
+            let mut out = vec![0xA5; inputs::LONGEST_PLAN];
+            let planned = model::plan_write(&image, 0, size, &mut out);
+            let call = Call::PlanWrite { chunk: 0, size };
+            give(Case {
+                out: vec![0xA5; inputs::LONGEST_PLAN],
+                ..case(call, image.clone())
+            });
+            let Ok(steps) = planned else { continue };
+            out.truncate(16 * steps as usize);
+            for other in [size - 1, size, size + 1, size + UNIT] {
+                let call = Call::CheckWrite {
+                    chunk: 0,
+                    size: other,
+                };
+                give(Case {
+                    plan: out.clone(),
+                    ..case(call, image.clone())
+                });
+            }
+        }
+    }
+}
+
+/// A conversion into a buffer of so many bytes.
+fn convert_to(room: usize, image: Vec<u8>) -> Case {
+    Case {
+        out: vec![0xA5; room],
+        ..case(Call::Convert, image)
+    }
+}
+
+fn convert_bytes(give: &mut dyn FnMut(Case)) {
+    every_byte(&worked(One), &mut |image| give(convert_to(272, image)));
+    // Whatever one byte makes of edition 2, it is not edition 1.
+    every_byte(&worked(Two), &mut |image| give(convert_to(272, image)));
+}
+
+fn convert_lengths(give: &mut dyn FnMut(Case)) {
+    for edition in Edition::ALL {
+        every_length(&worked(edition), &mut |image| give(convert_to(272, image)));
+    }
+}
+
+/// Every length of the buffer around the right one, for the smallest image, the
+/// example and, near the right one, the largest.
+fn convert_buffers(give: &mut dyn FnMut(Case)) {
+    let smallest = inputs::fresh(&Shape::one(2, 1, 2, 2));
+    for image in [smallest, example(One), worked(One), worked(Two)] {
+        for room in 0..=600 {
+            give(convert_to(room, image.clone()));
+        }
+    }
+    let full = inputs::with_free(&largest(4608), |unit| unit < 512);
+    for room in [0, 38_943, 38_944, 38_945]
+        .into_iter()
+        .chain(41_240..41_272)
+    {
+        give(convert_to(room, full.clone()));
+    }
+}
+
+fn convert_units(give: &mut dyn FnMut(Case)) {
+    every_volume(One, 4, &mut |image| {
+        let trailer = image.len() - 32;
+        let maps = u32::from_le_bytes(image[trailer + 12..trailer + 16].try_into().expect("u32"));
+        // A word more for each map, and eight bytes of trailer.
+        let room = image.len() + 8 * maps as usize + 8;
+        give(convert_to(room, image));
+    });
 }

@@ -7,16 +7,27 @@ use sumbilak_reference::inputs::{encode, Fields, Shape, FENCE as FENCE_STEP, X32
 use crate::event::{Request, DATA, LINK, MAP};
 use crate::rules::check;
 
-/// Every step that keeps rule 1 on a volume of this geometry.
+/// Sizes of edition 2 that are tried: the request's, one of as many units and
+/// one of more.
+const SIZES: [u32; 3] = [4096, 4095, 8192];
+
+/// Every step that keeps rule 1 on a volume of this geometry; of the sizes, the
+/// few above.
 fn alphabet(shape: &Shape) -> Vec<Fields> {
-    let Shape { p, c, m, n } = *shape;
+    let Shape { p, c, m, n, .. } = *shape;
     let [p, c, m, n] = [p, c, m, n].map(|limit| limit as u32);
     let mut steps = vec![FENCE_STEP];
     for piece in 0..p {
         steps.extend((0..n).map(|unit| [DATA, unit, piece, 0]));
-        for map in 0..m {
+    }
+    let first = shape.size_words() as u32;
+    for map in 0..m {
+        for word in first..first + p {
             let values = (0..n).chain([X32]);
-            steps.extend(values.map(|value| [MAP, map, piece, value]));
+            steps.extend(values.map(|value| [MAP, map, word, value]));
+        }
+        for word in 0..first {
+            steps.extend(SIZES.map(|size| [MAP, map, word, size]));
         }
     }
     for chunk in 0..c {

@@ -5,13 +5,14 @@ use std::collections::HashSet;
 use std::ops::AddAssign;
 
 use sumbilak_reference::inputs::{
-    assemble, decode, encode, Fields, Shape, FENCE as FENCE_STEP, X32,
+    assemble, decode, encode, Edition, Fields, Shape, FENCE as FENCE_STEP, X32,
 };
 
-use crate::event::{Event, Hand, Leftovers, Payload, Request, DATA};
+use crate::converted::{converted, Conversions};
+use crate::event::{Event, Hand, Leftovers, Payload, Request, DATA, MAP};
 use crate::figures::Figures;
 use crate::lists::Case;
-use crate::plans::{replace_map, replace_unit};
+use crate::plans::{of_the_other_edition, replace_map, replace_unit, Ground};
 use crate::repaired::{every_image, repaired, Repairs};
 use crate::rules::{carry_step, first, land, landed, Rules};
 use crate::simulate::{Due, Simulator, Violation};
@@ -28,8 +29,8 @@ pub enum Plans {
     /// fence every subset of all DATA and MAP steps comes up anyway, and a
     /// fence only takes subsets away.
     EveryChoice,
-    /// As `Two`, and every plan that one edit makes of the planner's, for as
-    /// long as the checker accepts it.
+    /// As `Two`, and every plan that one edit makes of the planner's, and the
+    /// other edition's, for as long as the checker accepts it.
     Edits,
 }
 
@@ -50,6 +51,9 @@ pub enum Start {
     Format(&'static [(u64, u64)]),
     /// At what a repair leaves of each image of [`every_image`].
     EveryRepair,
+    /// In edition 2, at what a converter makes of each sound image of
+    /// [`every_image`] of edition 1.
+    EveryConversion,
 }
 
 pub struct Scope {
@@ -84,6 +88,7 @@ pub struct Tally {
     pub carried: u64,
     pub violations: u64,
     pub repairs: Repairs,
+    pub converted: Conversions,
 }
 
 impl Tally {
@@ -117,6 +122,7 @@ impl AddAssign<&Tally> for Tally {
         self.carried += other.carried;
         self.violations += other.violations;
         self.repairs += &other.repairs;
+        self.converted += &other.converted;
     }
 }
 
@@ -182,7 +188,9 @@ struct Explorer<'a, R> {
     violations: Vec<Violation>,
 }
 
-/// Every write by its number of units, and the discard, of every chunk.
+/// Every write by its number of units, and the discard, of every chunk. In
+/// edition 2 a size stays in its map, so that more sizes make many more states;
+/// [`edits`] and random lists have others.
 fn requests(shape: &Shape) -> impl Iterator<Item = Request> {
     let sizes = (1..=shape.p).map(|k| Some(4096 * k - 1)).chain([None]);
     let sizes: Vec<Option<u64>> = sizes.collect();
@@ -210,8 +218,9 @@ fn arrangements(items: &[u64], k: usize) -> Vec<Vec<u64>> {
 }
 
 /// Every plan that one edit makes: a step left out, moved, swapped, twice, a
-/// fence put in, a shorter plan, any field set to any number in range, and a
-/// unit or the map exchanged for any other wherever it stands.
+/// fence put in, a shorter plan, any field set to any number in range (a size:
+/// to those at a unit's edge), and a unit or the map exchanged for any other
+/// wherever it stands.
 fn edits(shape: &Shape, steps: &[Fields]) -> Vec<Vec<Fields>> {
     let mut all = Vec::new();
     let mut put = |edited: Vec<Fields>| {
@@ -239,11 +248,20 @@ fn edits(shape: &Shape, steps: &[Fields]) -> Vec<Vec<Fields>> {
             swapped.swap(at, other);
             put(swapped);
         }
-        let most = [4, shape.n.max(shape.m), shape.p, shape.n.max(shape.m)];
+        let words = shape.map_words();
+        let most = [4, shape.n.max(shape.m), words, shape.n.max(shape.m)];
         for (field, most) in most.into_iter().enumerate() {
             for value in (0..=most as u32).chain([X32]) {
                 let mut other = steps.to_vec();
                 other[at][field] = value;
+                put(other);
+            }
+        }
+        if step[0] == MAP && u64::from(step[2]) < shape.size_words() {
+            let edges = (1..=shape.p as u32).flat_map(|k| [4096 * k - 1, 4096 * k, 4096 * k + 1]);
+            for size in edges.chain([step[3] - 1]) {
+                let mut other = steps.to_vec();
+                other[at][3] = size;
                 put(other);
             }
         }
@@ -256,7 +274,7 @@ fn edits(shape: &Shape, steps: &[Fields]) -> Vec<Vec<Fields>> {
     for step in steps.iter().filter(|step| step[0] == DATA) {
         for unit in 0..shape.n as u32 {
             let mut other = steps.to_vec();
-            replace_unit(&mut other, step[1], unit);
+            replace_unit(shape, &mut other, step[1], unit);
             put(other);
         }
     }
@@ -280,7 +298,7 @@ impl<R: Rules> Explorer<'_, R> {
         };
         let planned_steps = decode(&planned);
         let mut plans = vec![(planned, Hand::Planner)];
-        if request.size.is_some() {
+        if let Some(size) = request.size {
             let reading = Reading::of(shape, image);
             let units: Vec<u64> = reading.free_units().collect();
             let maps: Vec<u64> = reading.free_maps().collect();
@@ -289,7 +307,7 @@ impl<R: Rules> Explorer<'_, R> {
             if self.scope.plans == Plans::EveryChoice {
                 for units in arrangements(&units, k) {
                     for &map in &maps {
-                        let steps = assemble(shape, chunk, &units, map);
+                        let steps = assemble(shape, chunk, size, &units, map);
                         if steps != planned_steps {
                             plans.push((encode(&steps), Hand::Other));
                         }
@@ -298,14 +316,23 @@ impl<R: Rules> Explorer<'_, R> {
             } else if units.len() >= k {
                 let highest: Vec<u64> = units.iter().rev().copied().take(k).collect();
                 let map = *maps.last().expect("more maps than chunks");
-                let mut steps = assemble(shape, chunk, &highest, map);
+                let mut steps = assemble(shape, chunk, size, &highest, map);
                 let fence = steps.len() - 3;
                 steps[..fence].reverse();
                 plans.push((encode(&steps), Hand::Other));
             }
         }
         if self.scope.plans == Plans::Edits {
-            let edited = edits(shape, &planned_steps);
+            let mut edited = edits(shape, &planned_steps);
+            if request.size.is_some() {
+                let reading = Reading::of(shape, image);
+                let ground = Ground {
+                    shape,
+                    image,
+                    reading: &reading,
+                };
+                edited.push(of_the_other_edition(&ground, request, &planned_steps));
+            }
             plans.extend(edited.iter().map(|steps| (encode(steps), Hand::Mutated)));
         }
         plans
@@ -401,6 +428,7 @@ impl<R: Rules> Explorer<'_, R> {
         let is_known = self.known.contains(&self.key);
         if !is_known {
             simulator.verify(&next.image, violations);
+            simulator.verify_sizes(next, event.request.chunk, violations);
         }
         let harmed = violations.iter().any(Violation::harms);
         if self.failed() {
@@ -460,6 +488,33 @@ impl<R: Rules> Explorer<'_, R> {
         failed.then(|| Case {
             shape: *shape,
             origin: "a repair".to_string(),
+            start: self.next.clone(),
+            events: Vec::new(),
+            violations: self.violations.clone(),
+        })
+    }
+
+    /// The states that a converter makes of every sound image of edition 1.
+    fn begin_converted(&mut self) -> Option<Case> {
+        let simulator = self.simulator;
+        let shape = &simulator.shape;
+        let one = shape.in_edition(Edition::One);
+        let mut failed = false;
+        every_image(&one, &mut |image| {
+            if failed || !Reading::of(&one, image).flaws.is_empty() {
+                return;
+            }
+            let used = Volume::holding(&one, image.to_vec(), (1..=one.n).collect());
+            let tally = &mut self.tally.converted;
+            let mut volume = converted(simulator, &used, tally, &mut self.violations);
+            if self.scope.renames() && self.violations.is_empty() {
+                rename(shape, &mut volume);
+            }
+            failed = !self.begin(volume);
+        });
+        failed.then(|| Case {
+            shape: *shape,
+            origin: "a conversion".to_string(),
             start: self.next.clone(),
             events: Vec::new(),
             violations: self.violations.clone(),
@@ -571,7 +626,7 @@ pub fn explore<R: Rules>(
     let simulator = Simulator::new(rules, scope.shape);
     let writes = match scope.start {
         Start::Format(writes) => writes,
-        Start::EveryRepair => &[],
+        Start::EveryRepair | Start::EveryConversion => &[],
     };
     let start = start(&simulator, scope, writes);
     let mut explorer = Explorer {
@@ -591,6 +646,7 @@ pub fn explore<R: Rules>(
             None
         }
         Start::EveryRepair => explorer.begin_repaired(),
+        Start::EveryConversion => explorer.begin_converted(),
     };
     let case = case.or_else(|| explorer.explore());
     explorer.tally.violations = u64::from(case.is_some());

@@ -7,8 +7,9 @@ use sumbilak_reference::rng::{mix, Rng};
 
 use crate::event::{Event, Hand, Leftovers, Payload, Request, LINK};
 use crate::figures::Figures;
+use crate::name;
 use crate::plans::{self, Ground};
-use crate::rules::Rules;
+use crate::rules::{Library, Rules};
 use crate::simulate::{Simulator, Violation};
 use crate::volume::{Held, Reading, Volume};
 
@@ -64,14 +65,17 @@ fn replay<R: Rules>(simulator: &Simulator<R>, start: &Volume, events: &[Event]) 
 
 impl fmt::Display for Case {
     fn fmt(&self, f: &mut fmt::Formatter) -> fmt::Result {
-        let Shape { p, c, m, n } = self.shape;
-        writeln!(f, "volume P={p} C={c} M={m} N={n}, {}", self.origin)?;
+        let Shape { c, .. } = self.shape;
+        writeln!(f, "volume {}, {}", name(&self.shape), self.origin)?;
         let image = &self.start.image;
         for chunk in 0..c {
             let held = Held::of(&self.shape, image, chunk);
-            let (map, units) = (entry(image, chunk), held.units());
+            let (map, units, size) = (entry(image, chunk), held.units(), held.size);
             if !units.is_empty() {
-                writeln!(f, "   start: chunk {chunk} map {map} units {units:?}")?;
+                writeln!(
+                    f,
+                    "   start: chunk {chunk} map {map} units {units:?} size {size}"
+                )?;
             }
         }
         for (at, event) in self.events.iter().enumerate() {
@@ -145,7 +149,8 @@ impl<R: Rules> Source<'_, R> {
             rng.shuffle(&mut units);
             let map = rng.below(shape.m);
             let chunk = request.chunk.min(shape.c - 1);
-            let steps = assemble(shape, chunk, &units[..k as usize], map);
+            let size = request.size.unwrap_or(4096 * k);
+            let steps = assemble(shape, chunk, size, &units[..k as usize], map);
             return (encode(&steps), Hand::Stray);
         };
         match rng.below(100) {
@@ -161,6 +166,10 @@ impl<R: Rules> Source<'_, R> {
                     Some((plan, rule)) => (plan, Hand::Damaged(rule)),
                     None => (planned, Hand::Planner),
                 }
+            }
+            75..=77 if request.size.is_some() => {
+                let steps = plans::of_the_other_edition(&ground, request, &legal);
+                (encode(&steps), Hand::Mutated)
             }
             _ => {
                 let base = if rng.chance(50) {
@@ -291,6 +300,28 @@ fn run_list<R: Rules>(
         }
     }
     None
+}
+
+/// A volume that has been used: what a list of events leaves of a formatted one,
+/// cuts and all.
+pub fn used(shape: &Shape, rng: &mut Rng) -> Volume {
+    let simulator = Simulator::new(&Library, *shape);
+    let mut volume = Volume::formatted(shape, || rng.next_u64());
+    let events = rng.between(3, 25);
+    let mut source = Source {
+        simulator: &simulator,
+        rng: Rng::new(rng.next_u64()),
+        hot: (0..shape.c.min(8)).collect(),
+        past: Vec::new(),
+    };
+    let mut violations = Vec::new();
+    for _ in 0..events {
+        let event = source.event(&volume, &mut violations);
+        let figures = &mut Figures::default();
+        simulator.event(&mut volume, &event, figures, &mut violations);
+    }
+    assert_eq!(violations, [], "the volume before its conversion");
+    volume
 }
 
 /// Runs lists on one geometry until one fails.

@@ -6,7 +6,7 @@
 //! image as the caller sees it, while LINK is still on its way. The two are
 //! then cut as the one row of steps that they are to the device.
 
-use sumbilak_reference::inputs::{decode, Fields, Shape};
+use sumbilak_reference::inputs::{decode, Edition, Fields, Shape, LONGEST_PLAN};
 
 use crate::event::{Event, Hand, Leftovers, Payload, Request};
 use crate::rules::{fenced, land, landed, Library, Rules};
@@ -28,7 +28,7 @@ fn write(volume: &Volume, shape: &Shape, number: u64, size: u64) -> Event {
         chunk: 0,
         size: Some(size),
     };
-    let mut out = [0; 16 * 35];
+    let mut out = [0; LONGEST_PLAN];
     let answer = Library.plan(shape, &volume.image, request, &mut out);
     assert_eq!(answer.number, 0, "there is room");
     Event {
@@ -51,13 +51,8 @@ fn finish(volume: &mut Volume, shape: &Shape, event: &Event) {
 /// A volume with one chunk, written three times: safely, then with or without
 /// the last FENCE, then by the planner once more, cut at every point and with
 /// every subset.
-pub fn run(last_fence: bool) -> Cuts {
-    let shape = Shape {
-        p: 2,
-        c: 1,
-        m: 2,
-        n: 4,
-    };
+pub fn run(edition: Edition, last_fence: bool) -> Cuts {
+    let shape = Shape::one(2, 1, 2, 4).in_edition(edition);
     let mut durable = Volume::formatted(&shape, || 0);
     let old = write(&durable, &shape, 1, 8192);
     finish(&mut durable, &shape, &old);

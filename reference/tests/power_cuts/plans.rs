@@ -1,7 +1,9 @@
 //! Plans from any hand: legal ones that the planner would not make, legal ones
 //! with one defect, and legal ones changed at random.
 
-use sumbilak_reference::inputs::{encode, entry, Fields, Shape, FENCE as FENCE_STEP, X, X32};
+use sumbilak_reference::inputs::{
+    assemble, encode, entry, size_of, Edition, Fields, Shape, FENCE as FENCE_STEP, X, X32,
+};
 use sumbilak_reference::rng::Rng;
 
 use crate::event::{Request, DATA, FENCE, LINK, MAP};
@@ -32,7 +34,7 @@ fn fences(rng: &mut Rng, least: usize, most: usize) -> Vec<Fields> {
 /// free.
 pub fn legal(rng: &mut Rng, ground: &Ground, request: Request) -> Option<Vec<Fields>> {
     let chunk = request.chunk as u32;
-    if request.size.is_none() {
+    let Some(size) = request.size else {
         if !ground.is_mapped(request.chunk) {
             return Some(Vec::new());
         }
@@ -41,7 +43,7 @@ pub fn legal(rng: &mut Rng, ground: &Ground, request: Request) -> Option<Vec<Fie
         steps.push([LINK, chunk, 0, X32]);
         steps.extend(fences(rng, 1, most));
         return Some(steps);
-    }
+    };
 
     let k = request.k() as usize;
     let mut units: Vec<u64> = ground.reading.free_units().collect();
@@ -53,14 +55,9 @@ pub fn legal(rng: &mut Rng, ground: &Ground, request: Request) -> Option<Vec<Fie
     let maps: Vec<u64> = ground.reading.free_maps().collect();
     let map = rng.pick(&maps) as u32;
 
-    let mut steps: Vec<Fields> = (0..)
-        .zip(&units)
-        .map(|(piece, &unit)| [DATA, unit as u32, piece, 0])
-        .collect();
-    steps.extend((0..ground.shape.p as u32).map(|word| {
-        let value = units.get(word as usize).map_or(X32, |&unit| unit as u32);
-        [MAP, map, word, value]
-    }));
+    // DATA and MAP; what follows them comes below.
+    let mut steps = assemble(ground.shape, request.chunk, size, &units, u64::from(map));
+    steps.truncate(steps.len() - 3);
     match rng.below(4) {
         0 => {}
         1 => steps.reverse(),
@@ -84,6 +81,30 @@ pub fn legal(rng: &mut Rng, ground: &Ground, request: Request) -> Option<Vec<Fie
     Some(steps)
 }
 
+/// A legal write's plan as the other edition has it: the words of its map with a
+/// size before them, or without.
+pub fn of_the_other_edition(ground: &Ground, request: Request, steps: &[Fields]) -> Vec<Fields> {
+    let (Some(size), Some(first)) = (request.size, steps.iter().position(|step| step[0] == MAP))
+    else {
+        return steps.to_vec();
+    };
+    let mut other = steps.to_vec();
+    match ground.shape.edition {
+        Edition::One => {
+            let map = steps[first][1];
+            let words = other.iter_mut().filter(|step| step[0] == MAP);
+            words.for_each(|step| step[2] += 1);
+            other.insert(first, [MAP, map, 0, size as u32]);
+        }
+        Edition::Two => {
+            other.retain(|step| !is_size(ground.shape, step));
+            let words = other.iter_mut().filter(|step| step[0] == MAP);
+            words.for_each(|step| step[2] -= 1);
+        }
+    }
+    other
+}
+
 /// Positions of the steps of one kind.
 fn of_kind(steps: &[Fields], kind: u32) -> Vec<usize> {
     (0..steps.len())
@@ -96,12 +117,17 @@ fn insert(rng: &mut Rng, steps: &mut Vec<Fields>, step: Fields) {
     steps.insert(rng.index(steps.len() + 1), step);
 }
 
+/// Whether a step stores the size of a map.
+fn is_size(shape: &Shape, step: &Fields) -> bool {
+    step[0] == MAP && u64::from(step[2]) < shape.size_words()
+}
+
 /// Puts one unit in another's place, in DATA and in MAP alike.
-pub fn replace_unit(steps: &mut [Fields], old: u32, new: u32) {
+pub fn replace_unit(shape: &Shape, steps: &mut [Fields], old: u32, new: u32) {
     for step in steps {
         match step[0] {
             DATA if step[1] == old => step[1] = new,
-            MAP if step[3] == old => step[3] = new,
+            MAP if step[3] == old && !is_size(shape, step) => step[3] = new,
             _ => {}
         }
     }
@@ -152,10 +178,16 @@ fn damage_form(rng: &mut Rng, shape: &Shape, mut steps: Vec<Fields>) -> Option<V
         1 => steps.resize(MOST_STEPS + 1, FENCE_STEP),
         _ => {
             let at = rng.index(steps.len().checked_sub(1)? + 1);
-            let Shape { p, c, m, n } = *shape;
+            let Shape { p, c, m, n, .. } = *shape;
+            let words = shape.map_words();
             let past: [(usize, u64); 3] = match steps[at][0] {
                 DATA => [(1, n), (2, p), (3, 1)],
-                MAP => [(1, m), (2, p), (3, n)],
+                // "word 0 holds 1 to P·4,096" (02, request 4).
+                MAP if is_size(shape, &steps[at]) => {
+                    let past = rng.pick(&[0, shape.chunk_bytes() + 1, u64::from(X32)]);
+                    [(1, m), (2, words), (3, past)]
+                }
+                MAP => [(1, m), (2, words), (3, n)],
                 LINK => [(1, c), (2, 1), (3, m)],
                 _ => [(1, 1), (2, 1), (3, 1)],
             };
@@ -185,18 +217,22 @@ fn damage_write(
     let one_data = rng.pick(&data);
     let one_map = rng.pick(&maps);
     let some_unit = steps[one_data][1];
+    let shape = ground.shape;
+    if shape.edition == Edition::Two && rng.chance(20) {
+        return damage_size(rng, shape, request, steps);
+    }
     Some(match rng.below(19) {
         // "Old units counted free for the write that replaces them." (01)
         0 => {
             let own = Held::of(ground.shape, ground.image, chunk);
             let unit = rng.pick_any(own.units())?;
-            replace_unit(steps, some_unit, unit as u32);
+            replace_unit(shape, steps, some_unit, unit as u32);
             2
         }
         1 => {
             let others: Vec<u64> = ground.reading.units_of_others(chunk).collect();
             let unit = rng.pick_any(&others)?;
-            replace_unit(steps, some_unit, unit as u32);
+            replace_unit(shape, steps, some_unit, unit as u32);
             2
         }
         2 => {
@@ -204,7 +240,7 @@ fn damage_write(
             if other == some_unit {
                 return None;
             }
-            replace_unit(steps, some_unit, other);
+            replace_unit(shape, steps, some_unit, other);
             2
         }
         3 => {
@@ -241,9 +277,10 @@ fn damage_write(
             3
         }
         9 => {
-            // Word 0 is a unit and no other word has the same value.
-            let zero = maps.iter().copied().find(|&at| steps[at][2] == 0)?;
-            let other = maps.iter().copied().find(|&at| steps[at][2] != 0)?;
+            // The first unit's word is a unit and no other has the same value.
+            let first = shape.size_words() as u32;
+            let zero = maps.iter().copied().find(|&at| steps[at][2] == first)?;
+            let other = maps.iter().copied().find(|&at| steps[at][2] > first)?;
             let value = steps[zero][3];
             steps[zero][3] = steps[other][3];
             steps[other][3] = value;
@@ -295,13 +332,34 @@ fn damage_write(
     })
 }
 
+/// A plan of edition 2 with another size, of as many units or of any number, or
+/// without its size: rule 3.
+fn damage_size(
+    rng: &mut Rng,
+    shape: &Shape,
+    request: Request,
+    steps: &mut Vec<Fields>,
+) -> Option<u64> {
+    let at = steps.iter().position(|step| is_size(shape, step))?;
+    let other = match rng.below(4) {
+        0 | 1 => size_of(rng, request.k()),
+        2 => rng.between(1, shape.chunk_bytes()),
+        _ => {
+            steps.remove(at);
+            return Some(3);
+        }
+    };
+    steps[at][3] = other as u32;
+    (Some(other) != request.size).then_some(3)
+}
+
 fn damage_discard(
     rng: &mut Rng,
     ground: &Ground,
     request: Request,
     steps: &mut Vec<Fields>,
 ) -> Option<u64> {
-    let Shape { p, c, m, n } = *ground.shape;
+    let Shape { p, c, m, n, .. } = *ground.shape;
     let mapped = ground.is_mapped(request.chunk);
     let chunk = request.chunk as u32;
     Some(match rng.below(6) {
@@ -311,7 +369,9 @@ fn damage_discard(
             2
         }
         1 => {
-            let step = [MAP, rng.below(m) as u32, rng.below(p) as u32, X32];
+            // X is no size, so any word but that one.
+            let word = ground.shape.size_words() + rng.below(p);
+            let step = [MAP, rng.below(m) as u32, word as u32, X32];
             insert(rng, steps, step);
             3
         }
@@ -346,12 +406,16 @@ fn damage_discard(
 
 /// Some step with its fields in range.
 fn loose_step(rng: &mut Rng, ground: &Ground) -> Fields {
-    let Shape { p, c, m, n } = *ground.shape;
+    let Shape { p, c, m, n, .. } = *ground.shape;
     let mut below = |limit: u64| rng.below(limit) as u32;
     let (unit, piece, map, chunk) = (below(n), below(p), below(m), below(c));
+    let word = below(ground.shape.map_words());
     match rng.below(4) {
         0 => [DATA, unit, piece, 0],
-        1 => [MAP, map, piece, rng.pick(&[unit, X32])],
+        1 if u64::from(word) < ground.shape.size_words() => {
+            [MAP, map, word, 1 + rng.below(4096 * p) as u32]
+        }
+        1 => [MAP, map, word, rng.pick(&[unit, X32])],
         2 => [LINK, chunk, 0, rng.pick(&[map, X32])],
         _ => FENCE_STEP,
     }
@@ -359,7 +423,8 @@ fn loose_step(rng: &mut Rng, ground: &Ground) -> Fields {
 
 /// One change, with nothing said about whether the plan is still legal.
 fn change(rng: &mut Rng, ground: &Ground, request: Request, steps: &mut Vec<Fields>) {
-    let Shape { p, c, m, n } = *ground.shape;
+    let Shape { p, c, m, n, .. } = *ground.shape;
+    let shape = ground.shape;
     let len = steps.len();
     if len == 0 {
         let step = loose_step(rng, ground);
@@ -396,7 +461,8 @@ fn change(rng: &mut Rng, ground: &Ground, request: Request, steps: &mut Vec<Fiel
         8 => {
             let limits = match steps[at][0] {
                 DATA => [n, p, 1],
-                MAP => [m, p, n],
+                MAP if is_size(shape, &steps[at]) => [m, 1, shape.chunk_bytes() + 1],
+                MAP => [m, shape.map_words(), n],
                 LINK => [c, 1, m],
                 _ => [1, 1, 1],
             };
@@ -421,7 +487,7 @@ fn change(rng: &mut Rng, ground: &Ground, request: Request, steps: &mut Vec<Fiel
             };
             let new = new.unwrap_or_else(|| rng.below(n));
             let old = steps[at][1];
-            replace_unit(steps, old, new as u32);
+            replace_unit(shape, steps, old, new as u32);
         }
         11 => {
             let map = rng.below(m) as u32;

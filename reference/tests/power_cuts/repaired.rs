@@ -15,7 +15,7 @@ use crate::lists::{self, Case};
 use crate::rules::{Library, Rules};
 use crate::simulate::{Simulator, Violation};
 use crate::volume::{faults, Fault, Volume};
-use crate::{any, name, seed, shape, times, wrong, CHANCES, VOLUMES, VOLUME_64K};
+use crate::{any, name, seed, shape, times, two, volumes, wrong, CHANCES, VOLUME_64K};
 use crate::{LEDGER, LOAD, NO_MAP, TWO_OWNERS};
 
 /// What was repaired.
@@ -94,6 +94,7 @@ pub fn repaired<R: Rules>(
     simulator.rules.write_back(damaged, &mut volume.image);
     simulator.verify(&volume.image, violations);
     simulator.verify_pieces(&volume, violations);
+    simulator.verify_sizes(&volume, 0, violations);
     volume
 }
 
@@ -115,21 +116,28 @@ fn start<R: Rules>(
 }
 
 /// Every image of this geometry: each entry a map, X or the least bad link, each
-/// word of every map a unit, X or the least number that is none.
+/// word of every map a unit, X or the least number that is none; a size 0, that
+/// of each number of units which the events have, or X.
 pub fn every_image(shape: &Shape, give: &mut dyn FnMut(&[u8])) {
-    let Shape { p, c, m, n } = *shape;
+    let Shape { p, c, m, n, .. } = *shape;
     let mut image = inputs::fresh(shape);
-    let mut digits = vec![0; (c + m * p) as usize];
-    let value = |at: usize, digit: u64| {
-        let limit = if (at as u64) < c { m } else { n };
-        if digit > limit {
-            X
+    let numbers = |limit: u64| -> Vec<u64> { (0..=limit).chain([X]).collect() };
+    let sizes: Vec<u64> = (0..=p)
+        .map(|k| (4096 * k).saturating_sub(1))
+        .chain([X])
+        .collect();
+    // The values of each word.
+    let mut values = vec![numbers(m); c as usize];
+    for word in (0..m).flat_map(|_| 0..shape.map_words()) {
+        values.push(if word < shape.size_words() {
+            sizes.clone()
         } else {
-            digit
-        }
-    };
-    for at in 0..digits.len() {
-        put_word(&mut image, 8 * at, value(at, 0));
+            numbers(n)
+        });
+    }
+    let mut digits = vec![0; values.len()];
+    for (at, values) in values.iter().enumerate() {
+        put_word(&mut image, 8 * at, values[0]);
     }
     loop {
         give(&image);
@@ -138,9 +146,9 @@ pub fn every_image(shape: &Shape, give: &mut dyn FnMut(&[u8])) {
             if at == digits.len() {
                 return;
             }
-            let was_last = value(at, digits[at]) == X;
+            let was_last = digits[at] + 1 == values[at].len();
             digits[at] = if was_last { 0 } else { digits[at] + 1 };
-            put_word(&mut image, 8 * at, value(at, digits[at]));
+            put_word(&mut image, 8 * at, values[at][digits[at]]);
             if !was_last {
                 break;
             }
@@ -185,7 +193,7 @@ fn random_event_lists_after_a_repair() {
         rows.push(row(name, &cells));
     };
 
-    for (at, (shape, lists)) in (0..).zip(VOLUMES) {
+    for (at, (shape, lists)) in (0..).zip(volumes()) {
         let (mut repairs, mut figures) = Default::default();
         let lists = times(lists.div_ceil(4));
         let seed = mix(seed ^ at);
@@ -234,17 +242,19 @@ fn random_event_lists_after_a_repair() {
 
 /// Volumes of which every image is repaired. What a repair leaves are all sound
 /// images, so that lists of any length go from one of them to another.
-const EVERY_IMAGE: [Scope; 3] = [
-    from_every_image(shape(2, 1, 2, 2)),
-    from_every_image(shape(2, 1, 2, 3)),
-    from_every_image(shape(2, 2, 3, 2)),
+const EVERY_IMAGE: [Scope; 5] = [
+    from_every_image(shape(2, 1, 2, 2), Plans::EveryChoice),
+    from_every_image(shape(2, 1, 2, 3), Plans::EveryChoice),
+    from_every_image(shape(2, 2, 3, 2), Plans::EveryChoice),
+    from_every_image(two(2, 1, 2, 2), Plans::EveryChoice),
+    from_every_image(two(2, 1, 2, 3), Plans::Two),
 ];
 
-const fn from_every_image(shape: Shape) -> Scope {
+const fn from_every_image(shape: Shape, plans: Plans) -> Scope {
     Scope {
         shape,
         start: Start::EveryRepair,
-        plans: Plans::EveryChoice,
+        plans,
         depth: None,
     }
 }

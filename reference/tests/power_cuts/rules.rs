@@ -47,6 +47,11 @@ pub trait Rules {
         ffi::repair(image, out)
     }
 
+    /// `one` is the geometry of the image, of edition 1.
+    fn convert(&self, _one: &Shape, image: &[u8], out: &mut [u8]) -> CAnswer {
+        ffi::convert(image, out)
+    }
+
     /// What a repaired image is on the device: "wholly written back and
     /// fenced" (02, request 3).
     fn write_back(&self, _damaged: &[u8], _repaired: &mut [u8]) {}

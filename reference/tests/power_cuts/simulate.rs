@@ -4,14 +4,19 @@ use std::fmt;
 
 use sumbilak_reference::ffi::{self, CAnswer, LOAD_WORDS};
 use sumbilak_reference::inputs::{
-    assemble, decode, encode, entry, put_entry, Fields, Shape, FENCE, X, X32,
+    assemble, decode, encode, entry, put_entry, put_units, Edition, Fields, Shape, FENCE,
+    LONGEST_PLAN, X, X32,
 };
 use sumbilak_reference::model::{self, Loaded, Refusal};
 
 use crate::event::{Event, Hand, Request, LINK};
 use crate::figures::Figures;
 use crate::rules::{carry_step, first, land, landed, Rules};
-use crate::volume::{faults, Flaw, Held, Reading, Volume, TRAILER};
+use crate::volume::{faults, stored, Flaw, Held, Reading, Volume};
+
+/// Up to so many chunks the library is asked for the stored size of each; above,
+/// for that of the event's chunk.
+const FEW_CHUNKS: u64 = 16;
 
 /// What went wrong.
 #[derive(Clone, Debug, PartialEq)]
@@ -32,6 +37,8 @@ pub enum Violation {
         holds: Vec<u64>,
         ledger: Vec<u64>,
     },
+    /// A chunk's stored size is not that of the write that last landed on it.
+    StoredSize { chunk: u64, size: u64, due: u64 },
     /// "After a cut the chunk in flight holds its new pieces exactly if its
     /// LINK landed" (Decision 24), else all its old ones.
     InFlight {
@@ -59,6 +66,11 @@ pub enum Violation {
         due: Vec<u64>,
         damaged: Vec<u8>,
     },
+    /// A conversion with another answer or byte than 02, request 4, gives.
+    Convert {
+        answer: CAnswer,
+        byte: Option<usize>,
+    },
     /// Another answer than the model's or the reading's.
     Answer {
         call: &'static str,
@@ -81,11 +93,13 @@ impl Violation {
             Violation::Model { .. } => "unsound by the model",
             Violation::Flaw(Flaw::Link { .. }) => "bad link",
             Violation::Flaw(Flaw::Map { .. }) => "a map that is not there",
+            Violation::Flaw(Flaw::Size { .. }) => "a size of other units",
             Violation::Flaw(Flaw::MapTwice { .. }) => "map with two owners",
             Violation::Flaw(Flaw::UnitTwice { .. }) => "unit with two owners",
             Violation::Trailer => "trailer changed",
             Violation::FreeSet { .. } => "free set",
             Violation::Ledger { .. } => "not what the ledger gives",
+            Violation::StoredSize { .. } => "another stored size",
             Violation::InFlight { .. } => "neither all new nor all old",
             Violation::Unfinished { .. } => "finished but not landed",
             Violation::RefusedChanged => "refused but changed",
@@ -94,6 +108,7 @@ impl Violation {
             Violation::Planner { .. } => "planner",
             Violation::Verdict { .. } => "verdict",
             Violation::Repair { .. } => "repair",
+            Violation::Convert { .. } => "conversion",
             Violation::Answer { .. } => "answer",
         }
     }
@@ -110,6 +125,7 @@ impl Violation {
                 | Violation::Planner { .. }
                 | Violation::Verdict { .. }
                 | Violation::Repair { .. }
+                | Violation::Convert { .. }
                 | Violation::Answer { .. }
         )
     }
@@ -166,13 +182,13 @@ fn words_of(loaded: &Loaded) -> [u64; LOAD_WORDS] {
 pub struct Simulator<'a, R> {
     pub rules: &'a R,
     pub shape: Shape,
-    trailer: [u8; TRAILER],
+    trailer: Vec<u8>,
 }
 
 impl<'a, R: Rules> Simulator<'a, R> {
     pub fn new(rules: &'a R, shape: Shape) -> Self {
         let fresh = Volume::formatted(&shape, || 0);
-        let trailer = fresh.trailer().try_into().expect("32 bytes");
+        let trailer = fresh.trailer(&shape).to_vec();
         Simulator {
             rules,
             shape,
@@ -213,6 +229,41 @@ impl<'a, R: Rules> Simulator<'a, R> {
         image
     }
 
+    /// Converts an image of edition 1 to this simulator's geometry, which is
+    /// the same in edition 2, and holds all of it to 02, request 4: every chunk
+    /// keeps its map and its units, "the size is k·4,096 and maps that no chunk
+    /// names become X throughout".
+    pub fn convert(&self, image: &[u8], violations: &mut Vec<Violation>) -> Vec<u8> {
+        let two = &self.shape;
+        let one = two.in_edition(Edition::One);
+        let mut due = vec![0xFF; two.image_len()];
+        let trailer = due.len() - self.trailer.len();
+        due[trailer..].copy_from_slice(&self.trailer);
+        for chunk in 0..one.c {
+            let map = entry(image, chunk);
+            if map != X {
+                let units: Vec<u64> = Held::of(&one, image, chunk)
+                    .units()
+                    .iter()
+                    .map(|&unit| unit as u64)
+                    .collect();
+                put_entry(&mut due, chunk, map);
+                put_units(two, &mut due, map, &units);
+            }
+        }
+        // It has to write every byte, so it starts on some that are wrong.
+        let mut out = vec![0x5A; two.image_len()];
+        let answer = self.rules.convert(&one, image, &mut out);
+        let good = triple(answer) == [0; 3]
+            && [answer.value, answer.extent] == [out.len() as u64, 0]
+            && out == due;
+        if !good {
+            let byte = (0..due.len()).find(|&at| out[at] != due[at]);
+            violations.push(Violation::Convert { answer, byte });
+        }
+        out
+    }
+
     /// Asks the planner, and holds its answer to 01: the k lowest free units,
     /// the lowest free map, 9 only if fewer than k units are free. "With N at
     /// least (C+1)·P it never does for one write."
@@ -223,35 +274,30 @@ impl<'a, R: Rules> Simulator<'a, R> {
         violations: &mut Vec<Violation>,
     ) -> Option<Vec<u8>> {
         let shape = &self.shape;
-        let mut out = [0xEE; 16 * 35];
+        let mut out = [0xEE; LONGEST_PLAN];
         let answer = self.rules.plan(shape, image, request, &mut out);
         let reading = Reading::of(shape, image);
         let k = request.k();
         let free = reading.free_units().count() as u64;
-        let due = if request.chunk >= shape.c {
-            Err([7, 0])
-        } else if !request.is_good(shape) {
-            Err([8, 0])
-        } else if request.size.is_none() {
-            Ok(if entry(image, request.chunk) == X {
-                Vec::new()
-            } else {
-                vec![[LINK, request.chunk as u32, 0, X32], FENCE]
-            })
-        } else if free < k {
-            Err([9, free])
-        } else {
-            let units: Vec<u64> = reading.free_units().take(k as usize).collect();
-            let map = reading.free_maps().next().expect("more maps than chunks");
-            Ok(assemble(shape, request.chunk, &units, map))
+        let due = match request.size {
+            _ if request.chunk >= shape.c => Err([7, 0]),
+            _ if !request.is_good(shape) => Err([8, 0]),
+            None if entry(image, request.chunk) == X => Ok(Vec::new()),
+            None => Ok(vec![[LINK, request.chunk as u32, 0, X32], FENCE]),
+            Some(_) if free < k => Err([9, free]),
+            Some(size) => {
+                let units: Vec<u64> = reading.free_units().take(k as usize).collect();
+                let map = reading.free_maps().next().expect("more maps than chunks");
+                Ok(assemble(shape, request.chunk, size, &units, map))
+            }
         };
         let room_for_one = shape.n < (shape.c + 1) * shape.p || answer.number != 9;
-        let length = 16 * answer.value.min(35) as usize;
+        let length = LONGEST_PLAN.min(16 * answer.value.min(64) as usize);
         let good = match &due {
             Ok(steps) => answer.number == 0 && encode(steps) == out[..length],
             Err(refusal) => {
                 [answer.number, answer.place] == *refusal
-                    && out == [0xEE; 16 * 35]
+                    && out == [0xEE; LONGEST_PLAN]
                     && answer.value == 0
             }
         };
@@ -404,6 +450,7 @@ impl<'a, R: Rules> Simulator<'a, R> {
         }
         self.verify(&volume.image, violations);
         self.verify_pieces(volume, violations);
+        self.verify_sizes(volume, event.request.chunk, violations);
         if R::RIGHT {
             self.verify_answers(&volume.image, event.request.chunk, violations);
         }
@@ -456,6 +503,9 @@ impl<'a, R: Rules> Simulator<'a, R> {
             let pieces = &mut volume.ledger[chunk as usize];
             pieces.clear();
             pieces.extend(new());
+            // "0 for an unmapped chunk" (02, request 4).
+            let size = event.request.size;
+            volume.sizes[chunk as usize] = size.map_or(0, |size| stored(&self.shape, size));
         }
 
         // "Old pieces are those held before the event; new ones the
@@ -496,7 +546,7 @@ impl<'a, R: Rules> Simulator<'a, R> {
     /// and by the simulator's own reading, nothing is owned twice, and the
     /// free sets are rebuilt from the named maps.
     pub fn verify(&self, image: &[u8], violations: &mut Vec<Violation>) {
-        if image[image.len() - TRAILER..] != self.trailer {
+        if !image.ends_with(&self.trailer) {
             violations.push(Violation::Trailer);
         }
         let reading = Reading::of(&self.shape, image);
@@ -529,10 +579,16 @@ impl<'a, R: Rules> Simulator<'a, R> {
         }
     }
 
-    /// Every chunk holds exactly what the ledger gives it.
+    /// Every chunk holds exactly what the ledger gives it, and its map has the
+    /// size of the write that gave it.
     pub fn verify_pieces(&self, volume: &Volume, violations: &mut Vec<Violation>) {
         for (chunk, ledger) in (0..).zip(&volume.ledger) {
             let held = Held::of(&self.shape, &volume.image, chunk);
+            let due = volume.sizes[chunk as usize];
+            if held.size != due {
+                let size = held.size;
+                violations.push(Violation::StoredSize { chunk, size, due });
+            }
             let holds = held.pieces(&volume.units);
             if !holds.eq(ledger.iter().copied()) {
                 violations.push(Violation::Ledger {
@@ -540,6 +596,26 @@ impl<'a, R: Rules> Simulator<'a, R> {
                     holds: held.pieces(&volume.units).collect(),
                     ledger: ledger.clone(),
                 });
+            }
+        }
+    }
+
+    /// "a call answers a chunk's stored size" (02, request 4): the library's
+    /// for each chunk, or on a volume with many for this one.
+    pub fn verify_sizes(&self, volume: &Volume, chunk: u64, violations: &mut Vec<Violation>) {
+        let c = self.shape.c;
+        let chunks = if c <= FEW_CHUNKS {
+            0..c
+        } else {
+            chunk.min(c - 1)..chunk.min(c - 1) + 1
+        };
+        for chunk in chunks {
+            let answer = ffi::stored_size(&volume.image, chunk);
+            let due = volume.sizes[chunk as usize];
+            let fields = [answer.value, answer.extent];
+            if triple(answer) != [0; 3] || fields != [due, 0] {
+                let size = answer.value;
+                violations.push(Violation::StoredSize { chunk, size, due });
             }
         }
     }
@@ -564,7 +640,7 @@ impl<'a, R: Rules> Simulator<'a, R> {
             let due = if k == 0 {
                 [0; 3]
             } else {
-                [0, self.shape.word_at(map, 0) as u64, 8 * k]
+                [0, self.shape.unit_at(map, 0) as u64, 8 * k]
             };
             let held = ffi::held(image, chunk);
             let answer = [held.number, held.value, held.extent];

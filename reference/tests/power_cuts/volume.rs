@@ -2,13 +2,13 @@
 //! neither the library nor the model.
 
 use sumbilak_reference::ffi::{self, LOAD_WORDS};
-use sumbilak_reference::inputs::{entry, put_entry, put_word, word, Shape, X};
+use sumbilak_reference::inputs::{
+    entry, put_entry, put_map, put_word, size_in, size_of, word, Edition, Shape, X,
+};
 use sumbilak_reference::rng::Rng;
 
 /// "P units make a chunk, 2 to 16." (01)
 pub const MOST_PIECES: usize = 16;
-/// Bytes of the trailer.
-pub const TRAILER: usize = 32;
 
 /// Image, units and ledger. "Each event gets image and units as the last one
 /// left them; nobody else writes them meanwhile." (01)
@@ -21,6 +21,9 @@ pub struct Volume {
     /// "The ledger gives each chunk a list of pieces, or nothing (the empty
     /// list)" (01).
     pub ledger: Vec<Vec<u64>>,
+    /// Beside the ledger, which "keeps pieces, not sizes" (Decision 70): what
+    /// each chunk's stored size has to be.
+    pub sizes: Vec<u64>,
 }
 
 /// Written out because the derived `clone_from` would not reuse the buffers.
@@ -30,6 +33,7 @@ impl Clone for Volume {
             image: self.image.clone(),
             units: self.units.clone(),
             ledger: self.ledger.clone(),
+            sizes: self.sizes.clone(),
         }
     }
 
@@ -37,6 +41,7 @@ impl Clone for Volume {
         self.image.clone_from(&other.image);
         self.units.clone_from(&other.units);
         self.ledger.clone_from(&other.ledger);
+        self.sizes.clone_from(&other.sizes);
     }
 }
 
@@ -44,16 +49,20 @@ impl Volume {
     /// "It starts from the image that format writes." "A unit's content is
     /// anything at the start"; the ledger gives "at the start nothing" (01).
     pub fn formatted(shape: &Shape, content: impl FnMut() -> u64) -> Self {
-        let Shape { p, c, m, n } = *shape;
+        let Shape { p, c, m, n, .. } = *shape;
         // Format has to write every byte, so it starts on some that are wrong.
         let mut image = vec![0x5A; shape.image_len()];
-        let answer = ffi::format(&mut image, p, c, m, n);
+        let answer = match shape.edition {
+            Edition::One => ffi::format(&mut image, p, c, m, n),
+            Edition::Two => ffi::format2(&mut image, p, c, m, n, 0),
+        };
         assert_eq!(answer.number, 0, "format of {shape:?}");
         let mut content = content;
         Volume {
             image,
             units: (0..n).map(|_| content()).collect(),
             ledger: vec![Vec::new(); c as usize],
+            sizes: vec![0; c as usize],
         }
     }
 
@@ -76,15 +85,15 @@ impl Volume {
             let map = maps.pop().expect("more maps than chunks");
             let k = rng.between(1, shape.p.min(units.len() as u64));
             put_entry(&mut volume.image, chunk, map);
-            for at in 0..k {
-                let unit = units.pop().expect("at least k are left");
-                put_word(&mut volume.image, shape.word_at(map, at), unit);
-                let content = volume.units[unit as usize];
-                volume.ledger[chunk as usize].push(content);
-            }
+            let held = units.split_off(units.len() - k as usize);
+            let size = size_of(rng, k);
+            put_map(shape, &mut volume.image, map, size, &held);
+            let contents = held.iter().map(|&unit| volume.units[unit as usize]);
+            volume.ledger[chunk as usize] = contents.collect();
+            volume.sizes[chunk as usize] = stored(shape, size);
         }
         for map in maps {
-            for at in 0..shape.p {
+            for at in 0..shape.map_words() {
                 let junk = match rng.below(4) {
                     0 => X,
                     1 => rng.next_u64(),
@@ -101,23 +110,38 @@ impl Volume {
     pub fn holding(shape: &Shape, image: Vec<u8>, units: Vec<u64>) -> Self {
         let pieces = |chunk: u64| Held::of(shape, &image, chunk).pieces(&units).collect();
         let ledger = (0..shape.c).map(pieces).collect();
+        let size = |chunk: u64| Held::of(shape, &image, chunk).size;
+        let sizes = (0..shape.c).map(size).collect();
         Volume {
             image,
             units,
             ledger,
+            sizes,
         }
     }
 
-    pub fn trailer(&self) -> &[u8] {
-        &self.image[self.image.len() - TRAILER..]
+    pub fn trailer(&self, shape: &Shape) -> &[u8] {
+        &self.image[self.image.len() - shape.trailer_len()..]
     }
 }
 
-/// The first units of a chunk's map, in order.
+/// What a chunk's stored size is once a write of this size has landed: "k·4,096
+/// in edition 1" (02, request 4), the size itself in edition 2.
+pub fn stored(shape: &Shape, size: u64) -> u64 {
+    match shape.edition {
+        Edition::One => size.div_ceil(4096) * 4096,
+        Edition::Two => size,
+    }
+}
+
+/// The first units of a chunk's map, in order, and its size.
 #[derive(Clone, Copy)]
 pub struct Held {
     units: [usize; MOST_PIECES],
     len: usize,
+    /// The stored size: the size word in edition 2, 4,096 for each unit in
+    /// edition 1, 0 for an unmapped chunk.
+    pub size: u64,
 }
 
 impl Held {
@@ -128,19 +152,27 @@ impl Held {
         let mut held = Held {
             units: [0; MOST_PIECES],
             len: 0,
+            size: 0,
         };
         let map = entry(image, chunk);
         if map < shape.m {
             for at in 0..shape.p {
-                let unit = word(image, shape.word_at(map, at));
+                let unit = word(image, shape.unit_at(map, at));
                 if unit >= shape.n {
                     break;
                 }
                 held.units[held.len] = unit as usize;
                 held.len += 1;
             }
+            held.size = size_in(shape, image, map).unwrap_or(4096 * held.len as u64);
         }
         held
+    }
+
+    /// "A sound map has k equal to the size rounded up in units" (02,
+    /// request 4).
+    fn size_fits(&self) -> bool {
+        self.size.div_ceil(4096) == self.len as u64
     }
 
     pub fn units(&self) -> &[usize] {
@@ -161,6 +193,9 @@ pub enum Flaw {
     Link { chunk: u64 },
     /// "each named map holds 1 to P units below N, then only X"
     Map { chunk: u64 },
+    /// "A sound map has k equal to the size rounded up in units" (02,
+    /// request 4).
+    Size { chunk: u64 },
     /// "no two chunks name the same map"
     MapTwice { map: u64, first: u64, second: u64 },
     /// "no unit is named twice in named maps"
@@ -198,9 +233,11 @@ impl Reading {
             }
             let held = Held::of(shape, image, second);
             let k = held.units().len() as u64;
-            let rest_absent = (k..shape.p).all(|at| word(image, shape.word_at(map, at)) == X);
+            let rest_absent = (k..shape.p).all(|at| word(image, shape.unit_at(map, at)) == X);
             if k == 0 || !rest_absent {
                 reading.flaws.push(Flaw::Map { chunk: second });
+            } else if !held.size_fits() {
+                reading.flaws.push(Flaw::Size { chunk: second });
             }
             for &unit in held.units() {
                 if let Some(first) = reading.unit_owner[unit].replace(second) {
@@ -240,7 +277,7 @@ impl Reading {
     /// What load has to answer: P, C, M, N, and both free sets, "bit u mod 64
     /// of word u/64 is 1 if unit u is free, all else 0" (01).
     pub fn load_words(&self) -> [u64; LOAD_WORDS] {
-        let Shape { p, c, m, n } = self.shape;
+        let Shape { p, c, m, n, .. } = self.shape;
         let mut words = [0; LOAD_WORDS];
         words[..4].copy_from_slice(&[p, c, m, n]);
         for unit in self.free_units() {
@@ -293,11 +330,12 @@ pub fn faults(shape: &Shape, image: &[u8]) -> Vec<(u64, Fault)> {
         let map = entry(image, chunk);
         let held = Held::of(shape, image, chunk);
         let k = held.units().len() as u64;
-        let mut rest = (k..shape.p).map(|at| word(image, shape.word_at(map, at)));
+        let mut rest = (k..shape.p).map(|at| word(image, shape.unit_at(map, at)));
         let fault = match map {
             X => None,
             _ if map >= shape.m => Some(Fault::Link),
             _ if k == 0 || rest.any(|word| word != X) => Some(Fault::Map),
+            _ if !held.size_fits() => Some(Fault::Map),
             _ => None,
         };
         if map != X && fault.is_none() {

@@ -3,8 +3,8 @@
 
 use sumbilak_reference::ffi::{self, CAnswer, LOAD_WORDS};
 use sumbilak_reference::inputs::{
-    assemble, decode, encode, entry, put_entry, put_word, word, Fields, Shape, FENCE as FENCE_STEP,
-    X,
+    assemble, decode, encode, entry, free_maps, mapped, put_entry, put_word, units_in, word,
+    Edition, Fields, Shape, FENCE as FENCE_STEP, X,
 };
 
 use crate::event::{Request, LINK, MAP};
@@ -156,7 +156,8 @@ fn plan_on(shape: &Shape, image: &[u8], request: Request, free: &[u64], out: &mu
     let named: Vec<u64> = (0..shape.c).map(|chunk| entry(image, chunk)).collect();
     let map = (0..shape.m).find(|map| !named.contains(map));
     let map = map.expect("more maps than chunks");
-    let steps = assemble(shape, request.chunk, &free[..k], map);
+    let size = request.size.expect("a write");
+    let steps = assemble(shape, request.chunk, size, &free[..k], map);
     let plan = encode(&steps);
     out[..plan.len()].copy_from_slice(&plan);
     CAnswer {
@@ -216,7 +217,7 @@ impl AllMaps {
         let mut free = vec![true; shape.n as usize];
         for map in 0..shape.m {
             for at in 0..shape.p {
-                let unit = word(image, shape.word_at(map, at));
+                let unit = word(image, shape.unit_at(map, at));
                 if unit < shape.n {
                     free[unit as usize] = false;
                 }
@@ -245,6 +246,163 @@ impl Rules for AllMaps {
         let free = AllMaps::free_units(shape, image);
         plan_on(shape, image, request, &free, out)
     }
+}
+
+/// A loader and a planner that take word 0 of a map for a unit's, as in
+/// edition 1: they count a size below N as a held unit.
+pub struct SizeAsUnit;
+
+impl SizeAsUnit {
+    fn free_units(shape: &Shape, image: &[u8]) -> Vec<u64> {
+        let mut free = vec![true; shape.n as usize];
+        for map in (0..shape.c).map(|chunk| entry(image, chunk)) {
+            if map < shape.m {
+                for at in 0..shape.map_words() {
+                    let unit = word(image, shape.word_at(map, at));
+                    if unit < shape.n {
+                        free[unit as usize] = false;
+                    }
+                }
+            }
+        }
+        (0..shape.n).filter(|&unit| free[unit as usize]).collect()
+    }
+}
+
+impl Rules for SizeAsUnit {
+    fn load(&self, shape: &Shape, image: &[u8], out: &mut [u64]) -> CAnswer {
+        let answer = ffi::load(image, out);
+        if answer.number == 0 {
+            out[4..76].fill(0);
+            for unit in SizeAsUnit::free_units(shape, image) {
+                out[4 + unit as usize / 64] |= 1 << (unit % 64);
+            }
+        }
+        answer
+    }
+
+    fn plan(&self, shape: &Shape, image: &[u8], request: Request, out: &mut [u8]) -> CAnswer {
+        if request.size.is_none() || !request.is_good(shape) {
+            return Library.plan(shape, image, request, out);
+        }
+        let free = SizeAsUnit::free_units(shape, image);
+        plan_on(shape, image, request, &free, out)
+    }
+}
+
+/// A checker that lets any size word pass: it asks the library about the plan
+/// with the request's size in it. Words with no size in range are left alone.
+pub fn with_any_size(shape: &Shape, image: &[u8], request: Request, plan: &[u8]) -> CAnswer {
+    let Some(size) = request.size.filter(|_| plan.len().is_multiple_of(16)) else {
+        return check(image, request, plan);
+    };
+    let mut steps = decode(plan);
+    for step in &mut steps {
+        let is_size = step[0] == MAP && u64::from(step[2]) < shape.size_words();
+        if is_size && (1..=shape.chunk_bytes()).contains(&u64::from(step[3])) {
+            step[3] = size as u32;
+        }
+    }
+    check(image, request, &encode(&steps))
+}
+
+/// A checker that takes another size of as many units for the same.
+pub fn with_rounded_sizes(shape: &Shape, image: &[u8], request: Request, plan: &[u8]) -> CAnswer {
+    let Some(size) = request.size.filter(|_| plan.len().is_multiple_of(16)) else {
+        return check(image, request, plan);
+    };
+    let mut steps = decode(plan);
+    for step in &mut steps {
+        let is_size = step[0] == MAP && u64::from(step[2]) < shape.size_words();
+        if is_size && u64::from(step[3]).div_ceil(4096) == size.div_ceil(4096) {
+            step[3] = size as u32;
+        }
+    }
+    check(image, request, &encode(&steps))
+}
+
+/// A checker and a carrier that take word 0 for the first unit's: each MAP word
+/// of the plan stands for the one before it. A plan of edition 1 passes, and its
+/// words are stored from word 0 on.
+pub fn with_word_0_a_unit(shape: &Shape, image: &[u8], request: Request, plan: &[u8]) -> CAnswer {
+    let right = check(image, request, plan);
+    let Some(size) = request.size.filter(|_| right.number == 11) else {
+        return right;
+    };
+    // The plan with its size put in and every unit one word on.
+    let mut steps = decode(plan);
+    let Some(map) = steps.iter().find(|step| step[0] == MAP).map(|step| step[1]) else {
+        return right;
+    };
+    for step in steps.iter_mut().filter(|step| step[0] == MAP) {
+        step[2] = step[2].saturating_add(shape.size_words() as u32);
+    }
+    steps.insert(0, [MAP, map, 0, size as u32]);
+    let mut shifted = encode(&steps);
+    shifted.extend(&plan[plan.len() / 16 * 16..]);
+    match check(image, request, &shifted) {
+        good if good.number == 0 => good,
+        _ => right,
+    }
+}
+
+/// What a converter is.
+pub type ConvertFn = fn(&Shape, &[u8], &mut [u8]) -> CAnswer;
+
+/// A wrong converter.
+pub struct Converter(pub ConvertFn);
+
+impl Rules for Converter {
+    fn convert(&self, one: &Shape, image: &[u8], out: &mut [u8]) -> CAnswer {
+        (self.0)(one, image, out)
+    }
+}
+
+/// Copies the words of dead maps along.
+pub fn convert_with_dead_maps(one: &Shape, image: &[u8], out: &mut [u8]) -> CAnswer {
+    let answer = ffi::convert(image, out);
+    let two = one.in_edition(Edition::Two);
+    for map in free_maps(one, image) {
+        for at in 0..one.p {
+            let value = word(image, one.unit_at(map, at));
+            put_word(out, two.unit_at(map, at), value);
+        }
+    }
+    answer
+}
+
+/// Loses the entry of the last chunk that is mapped.
+pub fn convert_without_an_entry(one: &Shape, image: &[u8], out: &mut [u8]) -> CAnswer {
+    let answer = ffi::convert(image, out);
+    if let Some(&chunk) = mapped(one, image).last() {
+        put_entry(out, chunk, X);
+    }
+    answer
+}
+
+/// Writes k for the size, and not k·4,096.
+pub fn convert_with_counts(one: &Shape, image: &[u8], out: &mut [u8]) -> CAnswer {
+    let answer = ffi::convert(image, out);
+    let two = one.in_edition(Edition::Two);
+    for chunk in mapped(one, image) {
+        let at = two.word_at(entry(image, chunk), 0);
+        put_word(out, at, word(out, at) / 4096);
+    }
+    answer
+}
+
+/// Writes the units of each map the other way round.
+pub fn convert_in_reverse(one: &Shape, image: &[u8], out: &mut [u8]) -> CAnswer {
+    let answer = ffi::convert(image, out);
+    let two = one.in_edition(Edition::Two);
+    for chunk in mapped(one, image) {
+        let map = entry(image, chunk);
+        let units = units_in(one, image, map);
+        for (j, &unit) in (0..).zip(units.iter().rev()) {
+            put_word(out, two.unit_at(map, j), unit);
+        }
+    }
+    answer
 }
 
 /// A loader that, "on a double claim", unmaps the earlier chunk and goes on.
@@ -431,7 +589,7 @@ pub fn repair_with_bad_claims(shape: &Shape, image: &mut [u8], out: &mut [u8]) -
         .filter(|(_, fault)| *fault == Fault::Map)
         .flat_map(|&(chunk, _)| {
             let map = entry(image, chunk);
-            let words = (0..shape.p).map(|at| word(image, shape.word_at(map, at)));
+            let words = (0..shape.p).map(|at| word(image, shape.unit_at(map, at)));
             words.collect::<Vec<u64>>()
         })
         .collect();
@@ -456,7 +614,7 @@ pub fn repair_and_wipe(shape: &Shape, image: &mut [u8], out: &mut [u8]) -> CAnsw
     for &chunk in &chunks {
         let map = entry(image, chunk);
         if map < shape.m {
-            (0..shape.p).for_each(|at| put_word(image, shape.word_at(map, at), X));
+            (0..shape.map_words()).for_each(|at| put_word(image, shape.word_at(map, at), X));
         }
     }
     unlink(image, &chunks, out)

@@ -1,0 +1,113 @@
+//! The generators hold what they say.
+
+use super::*;
+
+#[test]
+fn bases_are_sound_and_differ() {
+    let mut rng = Rng::new(3);
+    let mut full = 0;
+    for _ in 0..300 {
+        let base = sound(&mut rng);
+        let loaded = model::load(&base.image).expect("sound");
+        assert_eq!(loaded.n, base.shape.n);
+        full += usize::from(loaded.units == [0; 72]);
+        let free = free_units(&base.shape, &base.image).len() as u32;
+        let ones: u32 = loaded.units.iter().map(|word| word.count_ones()).sum();
+        assert_eq!(free, ones);
+    }
+    assert!(full > 0, "some volume is full");
+}
+
+#[test]
+fn blank_images_are_what_format_writes() {
+    let mut rng = Rng::new(6);
+    for _ in 0..50 {
+        let shape = shape(&mut rng);
+        assert_eq!(blank(&shape), fresh(&shape));
+        let past = past_a_limit(&mut rng, &shape);
+        let refusal = model::load(&blank(&past)).unwrap_err();
+        assert_eq!(refusal.number, 3, "{past:?}");
+    }
+}
+
+#[test]
+fn each_damage_reaches_its_row() {
+    let mut rng = Rng::new(4);
+    for row in 1..=6 {
+        let mut reached = [0; 2];
+        for _ in 0..600 {
+            let mut base = sound(&mut rng);
+            damage(&mut rng, &base.shape, &mut base.image, row);
+            if let Err(refusal) = model::load(&base.image) {
+                let edition = base.shape.edition.number() as usize;
+                reached[edition - 1] += usize::from(refusal.number == row);
+            }
+        }
+        let enough = reached.into_iter().all(|times| times > 200);
+        assert!(enough, "row {row} was reached {reached:?} times");
+    }
+}
+
+#[test]
+fn shapes_and_images_agree_with_the_model() {
+    let mut rng = Rng::new(8);
+    for _ in 0..100 {
+        let base = sound(&mut rng);
+        let Shape {
+            edition,
+            p,
+            c,
+            m,
+            n,
+        } = base.shape;
+        let shape = model::shape(&base.image).expect("sound");
+        assert_eq!(shape.edition, edition.number());
+        assert_eq!([shape.p, shape.c, shape.m, shape.n], [p, c, m, n]);
+        for chunk in 0..c {
+            let size = model::stored_size(&base.image, chunk).expect("a good chunk");
+            let map = entry(&base.image, chunk);
+            let due = if map == X {
+                0
+            } else {
+                let whole = UNIT * units_in(&base.shape, &base.image, map).len() as u64;
+                size_in(&base.shape, &base.image, map).unwrap_or(whole)
+            };
+            assert_eq!(size, due);
+        }
+    }
+}
+
+#[test]
+fn damaged_tables_keep_their_trailer_and_are_seldom_sound() {
+    let mut rng = Rng::new(7);
+    let mut faulty = 0;
+    for _ in 0..300 {
+        let mut base = sound(&mut rng);
+        let before = base.image.clone();
+        tables_damaged(&mut rng, &base.shape, &mut base.image);
+        let tables = before.len() - base.shape.trailer_len();
+        assert_eq!(base.image[tables..], before[tables..]);
+        faulty += usize::from(model::load(&base.image).is_err());
+    }
+    assert!(faulty > 250, "{faulty} were unsound");
+}
+
+#[test]
+fn assembled_plans_on_free_units_pass() {
+    let mut rng = Rng::new(5);
+    let mut passed = 0;
+    for _ in 0..300 {
+        let base = sound(&mut rng);
+        let chunk = rng.below(base.shape.c);
+        let k = rng.between(1, base.shape.p);
+        let size = size_of(&mut rng, k);
+        let edition = base.shape.edition;
+        let plan = encode(&write_plan(&mut rng, &base, edition, chunk, size));
+        let room = free_units(&base.shape, &base.image).len() as u64 >= k;
+        let checked = model::check_write(&base.image, chunk, size, &plan);
+        assert!(checked.is_ok() || !room);
+        passed += usize::from(checked.is_ok());
+        assert_eq!(encode(&decode(&plan)), plan);
+    }
+    assert!(passed > 100);
+}
