@@ -1,4 +1,4 @@
 // Says whether a plan keeps the rules: `check_plan IMAGE PLANFILE write CHUNK SIZE | discard CHUNK`.
 fn main() {
-    files::commands::check_plan();
+    plans::commands::check_plan();
 }

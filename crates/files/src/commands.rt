@@ -1,18 +1,13 @@
 // The programs that make or change files: what each does with its arguments, and its last line.
-use crate::carrying::carry_file;
 use crate::converting::convert_file;
 use crate::formatting::format_file;
-use crate::planning::check_file;
-use crate::planning::plan_file;
 use crate::repairing::repair_file;
 use decimals::Number;
-use host::Asked;
 use host::Outcome;
 use host::arguments;
 use host::saying::conclude;
 use layout::FIRST_EDITION;
 use layout::LAST_EDITION;
-use steps::Request;
 
 // The numbers of a fresh volume from argument 2 on, one after the other. Edition 2 has one more, its reserved units.
 fn fresh_reserving(p: u64, c: u64, m: u64, n: u64) -> Outcome {
@@ -73,60 +68,6 @@ pub fn fresh() {
 // The same of edition 2.
 pub fn fresh2() {
     conclude(fresh_in(LAST_EDITION, 7, b"fresh2 FILE P C M N R"));
-}
-
-fn plan_one() -> Outcome {
-    let asked = arguments::request(3, b"plan IMAGE PLANFILE write CHUNK SIZE | discard CHUNK");
-    match asked {
-        Asked::For(request) => plan_file(request),
-        Asked::Malformed => Outcome::Unreadable,
-    }
-}
-
-// Plans a request into a new file, and prints the plan.
-pub fn plan() {
-    conclude(plan_one());
-}
-
-fn check_one() -> Outcome {
-    let asked = arguments::request(
-        3,
-        b"check_plan IMAGE PLANFILE write CHUNK SIZE | discard CHUNK",
-    );
-    match asked {
-        Asked::For(request) => check_file(request),
-        Asked::Malformed => Outcome::Unreadable,
-    }
-}
-
-// Checks a plan for a request.
-pub fn check_plan() {
-    conclude(check_one());
-}
-
-// Of how many steps argument 3 says.
-fn carry_for(request: Request) -> Outcome {
-    let n = arguments::number(3);
-    match n {
-        Number::Value(count) => carry_file(request, count),
-        Number::Malformed => Outcome::Unreadable,
-    }
-}
-
-fn carry_one() -> Outcome {
-    let asked = arguments::request(
-        4,
-        b"carry_out IMAGE PLANFILE N write CHUNK SIZE | discard CHUNK",
-    );
-    match asked {
-        Asked::For(request) => carry_for(request),
-        Asked::Malformed => Outcome::Unreadable,
-    }
-}
-
-// Carries out the first steps of a plan on an image file, in place.
-pub fn carry_out() {
-    conclude(carry_one());
 }
 
 fn convert_one() -> Outcome {

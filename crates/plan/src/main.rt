@@ -1,4 +1,4 @@
 // Plans a request into a new file, and prints the plan: `plan IMAGE PLANFILE write CHUNK SIZE | discard CHUNK`.
 fn main() {
-    files::commands::plan();
+    plans::commands::plan();
 }

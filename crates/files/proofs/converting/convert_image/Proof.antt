@@ -1,6 +1,7 @@
 -- `files::converting::convert_image` is safe: an image's length is within the room.
 use native.Mathlib.Omega.{arith}
-use Rattle.files.proofs.Parts.{part-length}
+use mathlib.Core.Path.{sym}
+use lib.Seq.{length-take-le}
 use borrow.Author.Needs.{needs}
 use Rattle.files.proofs.converting.convert_image.Statement.{statement}
 use Rattle.files.proofs.converting.convert_image.Tie as tie
@@ -15,7 +16,7 @@ array-borrow-prefix-room : tie.Need-array-borrow-prefix-room
 array-borrow-prefix-room c = search needs
 
 slice-aggregate-convert-into : tie.Need-slice-aggregate-convert-into
-slice-aggregate-convert-into c = part-length _ _ (omega arith)
+slice-aggregate-convert-into c = sym (length-take-le _ _ (omega arith))
 
 convert-into-requires : tie.Need-convert-into-requires
 convert-into-requires c κs = search needs

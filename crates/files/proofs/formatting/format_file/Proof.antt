@@ -1,6 +1,7 @@
 -- `files::formatting::format_file` is safe: an image's length is within the room.
 use native.Mathlib.Omega.{arith}
-use Rattle.files.proofs.Parts.{part-length}
+use mathlib.Core.Path.{sym}
+use lib.Seq.{length-take-le}
 use borrow.Author.Needs.{needs}
 use Rattle.files.proofs.formatting.format_file.Statement.{statement}
 use Rattle.files.proofs.formatting.format_file.Tie as tie
@@ -15,7 +16,7 @@ array-borrow-prefix-room : tie.Need-array-borrow-prefix-room
 array-borrow-prefix-room c = search needs
 
 slice-aggregate-format-room : tie.Need-slice-aggregate-format-room
-slice-aggregate-format-room c = part-length _ _ (omega arith)
+slice-aggregate-format-room c = sym (length-take-le _ _ (omega arith))
 
 format-room-requires : tie.Need-format-room-requires
 format-room-requires c κs = search needs

@@ -1,8 +1,8 @@
 -- `files::repairing::repair_image` is safe: as many chunks as the repair answers are in the list.
 use Rattle.repair.proofs.Theorems.{answered}
-use Rattle.files.proofs.Parts.{part-length}
 use mathlib.Core.Path.{sym, _∙_}
 use native.Mathlib.Omega.{arith}
+use lib.Seq.{length-take-le}
 use borrow.Author.Needs.{needs}
 use Rattle.files.proofs.repairing.repair_image.Statement.{statement}
 use Rattle.files.proofs.repairing.repair_image.Tie as tie
@@ -32,7 +32,7 @@ slice-aggregate-keep-repaired : tie.Need-slice-aggregate-keep-repaired
 slice-aggregate-keep-repaired c =
     let unlinked = sym (c .before .before .before .before .before .before .before .before .repair .ensures .0) ∙ c .before .before .before .answer .given .1 in
     let f = answered _ _ _ unlinked .enough in
-    part-length _ _ (omega arith)
+    sym (length-take-le _ _ (omega arith))
 
 keep-repaired-requires : tie.Need-keep-repaired-requires
 keep-repaired-requires c κs = search needs

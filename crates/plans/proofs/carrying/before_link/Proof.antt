@@ -1,8 +1,8 @@
--- `files::carrying::before_link` is safe and ends.
+-- `plans::carrying::before_link` is safe and ends.
 use borrow.Author.Needs.{needs}
 use Prim.Native.Nat.{_-_, _≤_}
-use Rattle.files.proofs.carrying.before_link.Statement.{statement}
-use Rattle.files.proofs.carrying.before_link.Tie as tie
+use Rattle.plans.proofs.carrying.before_link.Statement.{statement}
+use Rattle.plans.proofs.carrying.before_link.Tie as tie
 
 abbrev Inv-loop : tie.InvT-loop
 Inv-loop plan n i₀ i = i ≤ n

@@ -1,7 +1,7 @@
--- `files::planning::plan_for` meets its contract: that of the call for the request.
+-- `plans::planning::plan_for` meets its contract: that of the call for the request.
 use borrow.Author.Needs.{needs}
-use Rattle.files.proofs.planning.plan_for.Statement.{statement}
-use Rattle.files.proofs.planning.plan_for.Tie as tie
+use Rattle.plans.proofs.planning.plan_for.Statement.{statement}
+use Rattle.plans.proofs.planning.plan_for.Tie as tie
 
 enum-known-request : tie.Need-enum-known-request
 enum-known-request c = search needs

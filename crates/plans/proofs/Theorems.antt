@@ -8,6 +8,7 @@ use native.Mathlib.Omega.{arith}
 use borrow.Author.Tests.{ltb-true, lt-ltb, le-ltb, lt-leb}
 use lib.Dec.{ltb, leb, eqb}
 use lib.ListN.{length}
+use lib.Seq.{length-take-le}
 use Rattle.search.proofs.Bools.{either, and-false-left, and-false-right}
 use Rattle.layout.specs.declared.Shape.{Shape}
 use Rattle.layout.specs.declared.Refusal.the-variants.{Range, Size, BadPlan}
@@ -21,8 +22,7 @@ use Rattle.rules.specs.declared.Checked.the-variants.{Refused as Denied}
 use Rattle.rules.proofs.Deciding.{broken-1}
 use Rattle.rules.specs.Rules.{rule1, knownOf, goodChunk, goodSize, judged, checked}
 use Rattle.carry.specs.Carry.{carryIn, carryAnswer}
-use Rattle.files.specs.LongPlans.{readOf, askedOf}
-use Rattle.files.proofs.Parts.{part-length}
+use Rattle.plans.specs.LongPlans.{readOf, askedOf}
 
 -- "at most 64"
 too-long : (g : Shape) (plan : List ℕ) → 64 < wholeSteps plan → rule1 g plan ≡ false
@@ -39,7 +39,7 @@ module _ (s : List ℕ) (r : Request) (plan : List ℕ) where
 
 module _ (plan : List ℕ) (long : 1040 ≤ length plan) where
   read-steps : wholeSteps (readOf plan) ≡ 65
-  read-steps = let e = part-length 1040 plan long in omega arith
+  read-steps = let e = length-take-le 1040 plan long in omega arith
 
   many-steps : 65 ≤ wholeSteps plan
   many-steps = omega arith

@@ -1,8 +1,8 @@
--- `files::planning::step_lines` is safe and ends: step i is a whole step.
+-- `plans::planning::step_lines` is safe and ends: step i is a whole step.
 use borrow.Author.Needs.{needs}
 use Prim.Native.Nat.{_-_, _≤_}
-use Rattle.files.proofs.planning.step_lines.Statement.{statement}
-use Rattle.files.proofs.planning.step_lines.Tie as tie
+use Rattle.plans.proofs.planning.step_lines.Statement.{statement}
+use Rattle.plans.proofs.planning.step_lines.Tie as tie
 
 abbrev Inv-loop : tie.InvT-loop
 Inv-loop plan head whole i₀ i = i ≤ whole

@@ -28,7 +28,7 @@ ghost use mathlib.Core.Path.{_≡_};
 ghost use lib.ListN.{length};
 ghost use Rattle.planner.specs.Planner.{planAnswer, planOut};
 ghost use Rattle.rules.specs.Rules.{checked};
-ghost use Rattle.files.specs.Checks.{checkOutcome};
+ghost use Rattle.plans.specs.Checks.{checkOutcome};
 
 // What a MAP or LINK step stores.
 fn stored(label: &[u8], value: Value) {

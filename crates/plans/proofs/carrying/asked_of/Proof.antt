@@ -1,8 +1,8 @@
--- `files::carrying::asked_of` meets its contract: the definition's tests, in its order.
-use Rattle.files.specs.LongPlans.{askedOf}
+-- `plans::carrying::asked_of` meets its contract: the definition's tests, in its order.
+use Rattle.plans.specs.LongPlans.{askedOf}
 use borrow.Author.Tests.{lt-ltb, le-ltb}
-use Rattle.files.proofs.carrying.asked_of.Statement.{statement}
-use Rattle.files.proofs.carrying.asked_of.Tie as tie
+use Rattle.plans.proofs.carrying.asked_of.Statement.{statement}
+use Rattle.plans.proofs.carrying.asked_of.Tie as tie
 
 returns : tie.Need-returns
 unfolding askedOf

@@ -1,9 +1,9 @@
--- `files::planning::head_of` is safe: the shape of a trailer that fits is within the limits.
+-- `plans::planning::head_of` is safe: the shape of a trailer that fits is within the limits.
 use mathlib.Core.Path.{sym, _∙_}
 use Rattle.layout.proofs.Limits.{fits-on, on-shaped}
 use borrow.Author.Needs.{needs}
-use Rattle.files.proofs.planning.head_of.Statement.{statement}
-use Rattle.files.proofs.planning.head_of.Tie as tie
+use Rattle.plans.proofs.planning.head_of.Statement.{statement}
+use Rattle.plans.proofs.planning.head_of.Tie as tie
 
 check-trailer-requires : tie.Need-check-trailer-requires
 check-trailer-requires c κs = search needs

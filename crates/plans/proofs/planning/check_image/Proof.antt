@@ -1,9 +1,9 @@
--- `files::planning::check_image` meets its contract: the outcome of what check answered.
-use Rattle.files.specs.Checks.{checkOutcome}
+-- `plans::planning::check_image` meets its contract: the outcome of what check answered.
+use Rattle.plans.specs.Checks.{checkOutcome}
 use mathlib.Core.Path.{sym, ap, _∙_}
 use borrow.Author.Needs.{needs}
-use Rattle.files.proofs.planning.check_image.Statement.{statement}
-use Rattle.files.proofs.planning.check_image.Tie as tie
+use Rattle.plans.proofs.planning.check_image.Statement.{statement}
+use Rattle.plans.proofs.planning.check_image.Tie as tie
 
 check-requires : tie.Need-check-requires
 check-requires c κs = search needs

@@ -1,13 +1,13 @@
--- `files::planning::plan_image` is safe: the steps that the planner answers are in the room.
+-- `plans::planning::plan_image` is safe: the steps that the planner answers are in the room.
 use native.Mathlib.Omega.{arith}
 use mathlib.Core.Path.{sym, _∙_}
 use denote.Ref.{now}
 use lib.ListN.{length}
-use Rattle.files.proofs.Parts.{part-length}
+use lib.Seq.{length-take-le}
 use Rattle.planner.proofs.Theorems.{answered}
 use borrow.Author.Needs.{needs}
-use Rattle.files.proofs.planning.plan_image.Statement.{statement}
-use Rattle.files.proofs.planning.plan_image.Tie as tie
+use Rattle.plans.proofs.planning.plan_image.Statement.{statement}
+use Rattle.plans.proofs.planning.plan_image.Tie as tie
 
 plan-for-requires : tie.Need-plan-for-requires
 plan-for-requires c κs = search needs
@@ -36,7 +36,7 @@ slice-aggregate-keep-plan c =
     let a = c .before .before .before .before .before .before .before .before .before .before .before .args in
     let steps = sym (c .before .before .before .before .before .before .before .plan-for .ensures .0) ∙ c .before .before .before .p .given .1 in
     let f = answered (now (a .image)) (a .request) (length (now (a .room))) _ steps .fits in
-    part-length _ _ (omega arith)
+    sym (length-take-le _ _ (omega arith))
 
 keep-plan-requires : tie.Need-keep-plan-requires
 keep-plan-requires c κs = search needs

@@ -1,18 +1,18 @@
--- `files::carrying::carry_copy` is safe: the image's bytes are within the array.
+-- `plans::carrying::carry_copy` is safe: the image's bytes are within the array.
 use lib.ListN.{length}
-use mathlib.Core.Path.{_≡_}
+use lib.Seq.{length-take-le}
+use mathlib.Core.Path.{_≡_, sym}
 use Rattle.layout.specs.Layout.{maxImageBytes}
-use Rattle.files.proofs.Parts.{part-length}
 use native.Mathlib.Omega.{arith}
 use borrow.Author.Needs.{needs}
-use Rattle.files.proofs.carrying.carry_copy.Statement.{statement}
-use Rattle.files.proofs.carrying.carry_copy.Tie as tie
+use Rattle.plans.proofs.carrying.carry_copy.Statement.{statement}
+use Rattle.plans.proofs.carrying.carry_copy.Tie as tie
 
 array-borrow-prefix-copy : tie.Need-array-borrow-prefix-copy
 array-borrow-prefix-copy c = search needs
 
 slice-aggregate-carry-on : tie.Need-slice-aggregate-carry-on
-slice-aggregate-carry-on c = part-length _ _ (let l : length (c .before .before .before .args .image) ≡ maxImageBytes = search needs in omega arith)
+slice-aggregate-carry-on c = sym (length-take-le _ _ (let l : length (c .before .before .before .args .image) ≡ maxImageBytes = search needs in omega arith))
 
 carry-on-requires : tie.Need-carry-on-requires
 carry-on-requires c κs = search needs

@@ -22,7 +22,7 @@ use steps::reading::found_at;
 ghost use mathlib.Core.Path.{_≡_};
 ghost use Prim.Native.Nat.{_≤_};
 ghost use Rattle.layout.specs.Layout.{maxImageBytes};
-ghost use Rattle.files.specs.LongPlans.{askedOf};
+ghost use Rattle.plans.specs.LongPlans.{askedOf};
 
 // How many steps to ask of the first 65 of a longer plan, where n are asked of the plan: what is past all of its steps stays so.
 fn asked_of(n: u64, whole: u64) -> u64
