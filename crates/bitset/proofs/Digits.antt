@@ -1,14 +1,16 @@
 -- The digits of one word: below, at and above a place, one of them changed, all of them alike, and those of a number.
 use Prim.Native.Nat.{ℕ, zero, suc, _+_, _*_, _^_, _/_, _%_, _<_, _≤_}
-use mathlib.Core.Bool.{Bool, true, false, cond}
+use mathlib.Core.Bool.{Bool, true, false, cond, _&&_}
 use mathlib.Core.Path.{_≡_, refl, ap, _∙_}
 use native.Mathlib.Nat.{zero-add, suc-add, add-zero, mul-assoc, pow-suc, pow-succ', add-mul-div-left, div-eq-of-lt, div-lt-iff-lt-mul}
 use native.Mathlib.Numerals.{one-add}
 use native.Mathlib.Omega.{arith}
 use lib.Bits.{bitOr, or-block, or-step, or-zero-r, or-add-and, and-le-l}
-use lib.Dec.{eqb, ltb, lit<}
+use lib.Dec.{eqb, ltb, leb, lit<}
 use lib.Pow.{pow-pos, shr-shr}
-use borrow.Author.Tests.{lt-ltb, le-ltb}
+use mathlib.Core.Logic.{⊎-elim}
+use borrow.Author.Tests.{lt-ltb, le-ltb, le-leb, lt-leb, ltb-true, ltb-false}
+use Rattle.search.proofs.Bools.{either}
 use Rattle.search.specs.Sets.{put}
 use Rattle.bitset.specs.Bits.{bits}
 use Rattle.search.proofs.Taken.{put-same, put-other}
@@ -120,6 +122,25 @@ bits-below n base j k e =
     let low = bits-full f base j (λ y a b. lt-ltb y n (omega arith)) in
     let high = bits-none f (base + j) k (λ y a b. le-ltb y n (omega arith)) in
     rw (bits-cut f base j k, high) (omega (arith, low))
+
+-- the numbers from low on and below high: those below high without those below low
+digit-between : (low high y : ℕ) → low ≤ high → digit (leb low y && ltb y high) + digit (ltb y low) ≡ digit (ltb y high)
+digit-between low high y h =
+    ⊎-elim
+    (λ q. let l = ltb-true y low q in rw (q, lt-leb low y l, lt-ltb y high (omega arith)))
+    (λ q. let l = ltb-false y low q in rw (q, le-leb low y l) (add-zero (digit (ltb y high))))
+    (either (ltb y low))
+
+pub bits-between : (low high base k : ℕ) → low ≤ high
+    → bits (λ u. leb low u && ltb u high) base k + bits (λ u. ltb u low) base k ≡ bits (λ u. ltb u high) base k
+unfolding bits
+bits-between low high base zero h = refl
+bits-between low high base (suc k) h = omega (arith, digit-between low high base h, bits-between low high (suc base) k h)
+
+-- from `low` on the two are the same
+pub bits-past : (low high base k : ℕ) → low ≤ high → low ≤ base → bits (λ u. ltb u high) base k ≡ bits (λ u. leb low u && ltb u high) base k
+bits-past low high base k h l =
+    let none = bits-none (λ u. ltb u low) base k (λ y a b. le-ltb y low (omega arith)) in omega (arith, bits-between low high base k h)
 
 -- ---- a number of k digits is what its own digits say
 pub bits-own : (f : ℕ → Bool) (base k x : ℕ) → x < 2 ^ k → ((j : ℕ) → j < k → f (base + j) ≡ eqb (x / 2 ^ j % 2) 1) → bits f base k ≡ x

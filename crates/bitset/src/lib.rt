@@ -1,8 +1,9 @@
 // Sets of numbers as lent words of 64 bits, any number of them: bit u mod 64 of word u/64 is 1 where u is in the set.
 ghost use mathlib.Core.Path.{_≡_};
-ghost use Prim.Native.Nat.{_*_, _%_, _^_, _<_};
+ghost use mathlib.Core.Bool.{_&&_};
+ghost use Prim.Native.Nat.{_*_, _%_, _^_, _<_, _≤_};
 ghost use lib.ListN.{length};
-ghost use lib.Dec.{ltb};
+ghost use lib.Dec.{ltb, leb};
 ghost use Rattle.search.specs.Search.{firstOr};
 ghost use Rattle.bitset.specs.Bits.{bits, bitSet, inSet, limit, inserted, removed, membersFrom, members};
 
@@ -73,6 +74,29 @@ pub fn fill(set: &mut [u64], n: usize)
 {
     for i in 0..set.len() {
         set[i] = word_below(n, i);
+    }
+}
+
+// Word i of the set of the numbers from `low` on and below `high`.
+fn word_between(low: usize, high: usize, i: usize) -> u64
+    requires { ⌜ low ≤ high ⌝ }
+    ensures { λ r. ⌜ r ≡ bits (λ u. leb low u && ltb u high) (64 * i) 64 ⌝ }
+{
+    word_below(high, i) - word_below(low, i)
+}
+
+// Makes the set that of the numbers from `low` on and below `high`, as far as it has bits for them.
+pub fn fill_between(set: &mut [u64], low: usize, high: usize)
+    requires { ⌜ low ≤ high ⌝ }
+    ensures { λ r. ⌜ now (set .exit) ≡ bitSet (λ u. leb low u && ltb u high) (length (now (set .entry))) ⌝ }
+{
+    fill(set, high);
+    // The words past that of `low` are right already.
+    for i in 0..set.len() {
+        if low / 64 < i {
+            return;
+        }
+        set[i] = word_between(low, high, i);
     }
 }
 
