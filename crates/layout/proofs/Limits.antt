@@ -1,31 +1,65 @@
 -- What the limits of a shape say of its numbers, and the sizes that follow.
-use Prim.Native.Nat.{ℕ, _+_, _*_, _≤_, _<_}
+use Prim.Native.Nat.{ℕ, _+_, _-_, _*_, _≤_, _<_}
 use mathlib.Core.Path.{_≡_, refl, sym, ap, subst, _∙_}
 use mathlib.Core.Bool.{Bool, true, false, not, _&&_, _||_, cond}
+use mathlib.Core.Logic.{_⊎_, inl, inr, ⊎-elim}
 use mathlib.Core.List.{List}
 use lib.ListN.{length}
 use native.Mathlib.Nat.{mul-le-mul, mul-le-mul-right}
 use native.Mathlib.Omega.{arith}
 use borrow.Author.Needs.{needs}
-use borrow.Author.Tests.{le-leb, lt-leb, le-ltb, lt-ltb, eq-eqb, ne-eqb, leb-true, ltb-true, ltb-false, eqb-true}
+use borrow.Author.Tests.{le-leb, lt-leb, le-ltb, lt-ltb, eq-eqb, ne-eqb, leb-true, ltb-true, ltb-false, eqb-true, eqb-false}
 use Rattle.layout.specs.declared.Shape.{Shape}
-use Rattle.layout.specs.Layout.{X, firstEdition, lastEdition, minChunkUnits, maxChunkUnits, minChunks, maxChunks, minSpareMaps, maxSpareMaps, maxMaps, maxUnits, maxMapWords, maxMapsWords, maxImageBytes, head, mapWords, isUnit, trailerBytes, withinLimits, taggedAt, knownAs, editionOf, trailerAt, agreeing, spareZero, known, fitting, shapeOf, imageBytes}
+use Rattle.layout.specs.Layout.{X, firstEdition, lastEdition, minChunkUnits, maxChunkUnits, minChunks, maxChunks, minSpareMaps, maxSpareMaps, maxMaps, maxUnits, maxMapWords, maxMapsWords, maxImageBytes, maxReserved, head, mapWords, isUnit, trailerBytes, withinLimits, taggedAt, knownAs, editionOf, trailerAt, agreeing, spareZero, known, fitting, shapeOf, imageBytes}
 use Rattle.layout.specs.declared.Refusal.the-variants.{Short, Foreign, Geometry}
 use Rattle.layout.specs.declared.Trailer.the-variants.{Fits, Refused}
 use Rattle.layout.specs.Trailer.{trailerOutcome}
 use Rattle.layout.specs.Shaped.{Limits, Shaped, On}
-use lib.Dec.{leb, ltb}
-use Rattle.search.proofs.Bools.{and-left, and-right, and-intro, is-false, cond-true}
+use lib.Dec.{leb, ltb, eqb}
+use Rattle.search.proofs.Bools.{and-left, and-right, and-intro, is-false, either, cond-true, cond-false}
 
 -- The needs, with the laws that give a test of numbers its value: at a return, `search tests` settles a definition that goes by tests from what
 -- the tests of the code said.
 pub ruleset tests = (needs, le-leb, lt-leb, le-ltb, lt-ltb, eq-eqb, ne-eqb)
 
+-- ---- the limits as facts, and back
+
+-- how many units may be reserved, in each edition
+most-first : (g : Shape) → g .edition ≡ firstEdition → maxReserved g ≡ 0
+unfolding maxReserved
+most-first g e = cond-true (eqb (g .edition) firstEdition) 0 (g .n - g .p) (eq-eqb (g .edition) firstEdition e)
+
+most-later : (g : Shape) → (g .edition ≡ firstEdition → ⊥) → maxReserved g ≡ g .n - g .p
+unfolding maxReserved
+most-later g n = cond-false (eqb (g .edition) firstEdition) 0 (g .n - g .p) (ne-eqb (g .edition) firstEdition n)
+
+reserved-few : (g : Shape) → leb (g .p) (g .n) ≡ true → leb (g .r) (maxReserved g) ≡ true → g .r + g .p ≤ g .n
+reserved-few g a b =
+    let l = leb-true (g .p) (g .n) a in
+    let h = leb-true (g .r) (maxReserved g) b in
+    ⊎-elim (λ q. omega (arith, most-first g (eqb-true (g .edition) firstEdition q))) (λ q. omega (arith, most-later g (eqb-false (g .edition) firstEdition q)))
+    (either (eqb (g .edition) firstEdition))
+
+reserved-none : (g : Shape) → leb (g .r) (maxReserved g) ≡ true → g .edition ≡ firstEdition → g .r ≡ 0
+reserved-none g b e = let h = leb-true (g .r) (maxReserved g) b in omega (arith, most-first g e)
+
+reserved-within : (g : Shape) → Limits g → leb (g .r) (maxReserved g) ≡ true
+reserved-within g l =
+    le-leb (g .r) (maxReserved g)
+    (⊎-elim (λ q. let e = eqb-true (g .edition) firstEdition q in omega (arith, most-first g e, l .r-first e))
+    (λ q. omega (arith, most-later g (eqb-false (g .edition) firstEdition q), l .r-high))
+    (either (eqb (g .edition) firstEdition)))
+
 pub limits : (g : Shape) → withinLimits g ≡ true → Limits g
 unfolding withinLimits
-limits g e = search (and-left, and-right, leb-true) depth 14
+limits g e = search (and-left, and-right, leb-true, reserved-few, reserved-none) depth 16
 
 -- ---- editions
+
+-- there are two
+pub two-editions : (e : ℕ) → firstEdition ≤ e → e ≤ lastEdition → (e ≡ firstEdition) ⊎ (e ≡ lastEdition)
+two-editions e a b =
+    ⊎-elim (λ q. inl (eqb-true e firstEdition q)) (λ q. let n = eqb-false e firstEdition q in inr (omega (arith, n))) (either (eqb e firstEdition))
 
 -- the one word that a map may have beyond its units
 pub map-words : (g : Shape) → mapWords g ≡ head g + g .p
@@ -138,6 +172,7 @@ limits-hold g l =
     (and-intro _ _
     (and-intro _ _
     (and-intro _ _
+    (and-intro _ _
     (and-intro _ _ (and-intro _ _ (le-leb firstEdition (g .edition) (l .edition-low)) (le-leb (g .edition) lastEdition (l .edition-high)))
     (le-leb minChunkUnits (g .p) (l .p-low)))
     (le-leb (g .p) maxChunkUnits (l .p-high)))
@@ -146,7 +181,8 @@ limits-hold g l =
     (le-leb (g .c + minSpareMaps) (g .m) (l .m-low)))
     (le-leb (g .m) (g .c + maxSpareMaps) (l .m-high)))
     (le-leb (g .p) (g .n) (l .n-low)))
-    (le-leb (g .n) (g .p * g .m) (l .n-high))
+    (le-leb (g .n) (g .p * g .m) (l .n-high)))
+    (reserved-within g l)
 
 -- a shape that the limits shut out
 pub no-limits : (g : Shape) → (Limits g → ⊥) → withinLimits g ≡ false
@@ -167,15 +203,21 @@ on-shaped g s o = shaped s g (sym (o .shape)) (o .fitting)
 
 pub unit-below : (g : Shape) (u : ℕ) → isUnit g u ≡ true → u < g .n
 unfolding isUnit
-unit-below g u = ltb-true u (g .n)
+unit-below g u e = ltb-true u (g .n) (and-right (leb (g .r) u) (ltb u (g .n)) e)
 
-pub below-unit : (g : Shape) (u : ℕ) → u < g .n → isUnit g u ≡ true
+pub unit-past : (g : Shape) (u : ℕ) → isUnit g u ≡ true → g .r ≤ u
 unfolding isUnit
-below-unit g u = lt-ltb u (g .n)
+unit-past g u e = leb-true (g .r) u (and-left (leb (g .r) u) (ltb u (g .n)) e)
+
+pub between-unit : (g : Shape) (u : ℕ) → g .r ≤ u → u < g .n → isUnit g u ≡ true
+unfolding isUnit
+between-unit g u a b = and-intro (leb (g .r) u) (ltb u (g .n)) (le-leb (g .r) u a) (lt-ltb u (g .n) b)
+
+pub reserved-no-unit : (g : Shape) (u : ℕ) → u < g .r → isUnit g u ≡ false
+reserved-no-unit g u h = is-false (isUnit g u) (λ e. let l = unit-past g u e in omega arith)
 
 pub past-units : (g : Shape) (u : ℕ) → g .n ≤ u → isUnit g u ≡ false
-unfolding isUnit
-past-units g u = le-ltb u (g .n)
+past-units g u h = is-false (isUnit g u) (λ e. let l = unit-below g u e in omega arith)
 
 pub absent-no-unit : (g : Shape) → Limits g → isUnit g X ≡ false
 absent-no-unit g l = let n = units-high g l in past-units g X (omega arith)

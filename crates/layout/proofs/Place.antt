@@ -12,7 +12,7 @@ use Rattle.words.specs.Words.{number, digits}
 use Rattle.words.proofs.Laws.{length-digits, length-store, number-ext}
 use Rattle.words.proofs.Store.{Outside, getD-sets-outside, number-store-apart, number-store-same, drop-store}
 use Rattle.layout.specs.declared.Shape.{Shape}
-use Rattle.layout.specs.Layout.{X, firstEdition, lastEdition, maxWords, taggedAt, knownAs, editionOf, agreeing, spareZero, mapBytes, trailerBytes, trailerStart, trailerAt, withinLimits, imageBytes, mapWords, shapeOf, known, fitting, wordAt, putWord, mapWordPlace}
+use Rattle.layout.specs.Layout.{X, firstEdition, lastEdition, maxWords, taggedAt, knownAs, editionOf, reservedAt, agreeing, spareZero, mapBytes, trailerBytes, trailerStart, trailerAt, withinLimits, imageBytes, mapWords, shapeOf, known, fitting, wordAt, putWord, mapWordPlace}
 use Rattle.layout.proofs.Limits.{edition-some, maps-high, known-as, shape-edition, fitting-limits, fitting-length}
 use Rattle.layout.specs.Shaped.{Limits, On, wordCount}
 
@@ -55,10 +55,14 @@ module _ (s t : List ℕ) (a : Alike s t) where
   alike-known : known t ≡ known s
   alike-known = known-as t ∙ ap (λ (e : ℕ). knownAs e t) alike-edition ∙ alike-as (editionOf s) (omega arith) ∙ sym (known-as s)
 
+  alike-reserved : reservedAt t (editionOf t) (trailerAt (editionOf t) t) ≡ reservedAt s (editionOf s) (trailerAt (editionOf s) s)
+  unfolding reservedAt
+  alike-reserved = λ i. cond (eqb (alike-edition i) firstEdition) 0 (field 4 32 i)
+
   alike-shape : shapeOf t ≡ shapeOf s
   unfolding shapeOf
   alike-shape =
-      λ i. record { edition = alike-edition i; p = field 2 6 i; c = field 4 8 i; m = field 4 12 i; n = field 4 16 i }
+      λ i. record { edition = alike-edition i; p = field 2 6 i; c = field 4 8 i; m = field 4 12 i; n = field 4 16 i; r = alike-reserved i }
 
   alike-fitting : fitting t ≡ fitting s
   unfolding fitting agreeing spareZero shapeOf
@@ -68,7 +72,7 @@ module _ (s t : List ℕ) (a : Alike s t) where
       withinLimits g
       && (eqb (field 4 20 i) (trailerStart g) && eqb (field 4 24 i) (mapBytes g) && eqb (field 4 28 i) (imageBytes g)
       && eqb (a .size i) (imageBytes g))
-      && (eqb (g .edition) firstEdition || (eqb (field 4 32 i) 0 && eqb (field 4 36 i) 0))
+      && (eqb (g .edition) firstEdition || eqb (field 4 36 i) 0)
 
 -- ---- a word is stored
 

@@ -25,12 +25,12 @@ firstEdition = 1
 abbrev pub lastEdition : ℕ
 lastEdition = 2
 
--- the shape with these numbers, in each edition
+-- the shape with these numbers, in each edition; "Edition 1 behaves as R = 0"
 abbrev pub edition1 : ℕ → ℕ → ℕ → ℕ → Shape
-edition1 p c m n = record { edition = firstEdition; p = p; c = c; m = m; n = n }
+edition1 p c m n = record { edition = firstEdition; p = p; c = c; m = m; n = n; r = 0 }
 
-abbrev pub edition2 : ℕ → ℕ → ℕ → ℕ → Shape
-edition2 p c m n = record { edition = lastEdition; p = p; c = c; m = m; n = n }
+abbrev pub edition2 : ℕ → ℕ → ℕ → ℕ → ℕ → Shape
+edition2 p c m n r = record { edition = lastEdition; p = p; c = c; m = m; n = n; r = r }
 
 -- "P units make a chunk, 2 to 16. C chunks, 1 to 256. M chunk maps, C+1 to C+32."
 abbrev pub minChunkUnits : ℕ
@@ -51,7 +51,11 @@ minSpareMaps = 1
 abbrev pub maxSpareMaps : ℕ
 maxSpareMaps = 32
 
--- one of the two editions, those limits, and "N backing units, P to P·M"
+-- "R, the reserved units, 0 to N-P"; "Edition 1 behaves as R = 0": the most units that may be reserved
+unfoldable pub maxReserved : Shape → ℕ
+maxReserved g = cond (eqb (g .edition) firstEdition) 0 (g .n - g .p)
+
+-- one of the two editions, those limits, "N backing units, P to P·M", and only then that of R, so that no difference is cut off at 0
 unfoldable pub withinLimits : Shape → Bool
 withinLimits g =
     leb firstEdition (g .edition) && leb (g .edition) lastEdition && leb minChunkUnits (g .p) && leb (g .p) maxChunkUnits && leb minChunks (g .c)
@@ -60,10 +64,11 @@ withinLimits g =
     && leb (g .m) (g .c + maxSpareMaps)
     && leb (g .p) (g .n)
     && leb (g .n) (g .p * g .m)
+    && leb (g .r) (maxReserved g)
 
--- "units below N": the numbers that are units at all
+-- "units below N", and "Units below R are never free and never held": the numbers that a chunk may hold as units
 unfoldable pub isUnit : Shape → ℕ → Bool
-isUnit g u = ltb u (g .n)
+isUnit g u = leb (g .r) u && ltb u (g .n)
 
 -- not "compressed size 0 or above P·4,096"
 abbrev pub isSize : Shape → ℕ → Bool
@@ -179,13 +184,13 @@ shapeBytes g = tag ++ digits 2 (g .edition) ++ digits 2 (g .p) ++ digits 4 (g .c
 unfoldable pub sizeBytes : Shape → List ℕ
 sizeBytes g = digits 4 (trailerStart g) ++ digits 4 (mapBytes g) ++ digits 4 (imageBytes g)
 
--- the rest: none in edition 1; in edition 2 "two u32 that must be 0"
-unfoldable pub spareBytes : Shape → List ℕ
-spareBytes g = replicate (8 * head g) 0
+-- the rest: none in edition 1; in edition 2 two u32, of which "The first [..] becomes R" and the second "must be 0"
+unfoldable pub addedBytes : Shape → List ℕ
+addedBytes g = cond (eqb (g .edition) firstEdition) [] (digits 4 (g .r) ++ digits 4 0)
 
 -- the trailer of a shape, whole
 unfoldable pub trailerOf : Shape → List ℕ
-trailerOf g = shapeBytes g ++ sizeBytes g ++ spareBytes g
+trailerOf g = shapeBytes g ++ sizeBytes g ++ addedBytes g
 
 -- "A fresh image has X in every entry and every map word."
 unfoldable pub fresh : Shape → List ℕ
@@ -216,17 +221,21 @@ editionOf s = cond (knownAs firstEdition s) firstEdition lastEdition
 unfoldable pub known : List ℕ → Bool
 known s = knownAs firstEdition s || knownAs lastEdition s
 
+-- the reserved units that an edition's trailer at byte t says: "The first of edition 2's two last u32 becomes R"; "Edition 1 behaves as R = 0"
+unfoldable pub reservedAt : List ℕ → ℕ → ℕ → ℕ
+reservedAt s edition t = cond (eqb edition firstEdition) 0 (u32At s (t + 32))
+
 -- the shape that it says
 unfoldable pub shapeOf : List ℕ → Shape
 shapeOf s =
     let e = editionOf s in
     let t = trailerAt e s in
-    record { edition = e; p = u16At s (t + 6); c = u32At s (t + 8); m = u32At s (t + 12); n = u32At s (t + 16) }
+    record { edition = e; p = u16At s (t + 6); c = u32At s (t + 8); m = u32At s (t + 12); n = u32At s (t + 16); r = reservedAt s e t }
 
--- "two u32 that must be 0, else 3": what stands after edition 1's fields
+-- "must be 0, else 3": the second of edition 2's two last u32
 unfoldable pub spareZero : List ℕ → Shape → Bool
 spareZero s g =
-    let t = trailerAt (g .edition) s in eqb (g .edition) firstEdition || (eqb (u32At s (t + 32)) 0 && eqb (u32At s (t + 36)) 0)
+    let t = trailerAt (g .edition) s in eqb (g .edition) firstEdition || eqb (u32At s (t + 36)) 0
 
 -- not "a distance or length that disagrees": both distances and both lengths, the one it says and the one it has, are those of the shape
 unfoldable pub agreeing : List ℕ → Shape → Bool
@@ -235,6 +244,6 @@ agreeing s g =
     eqb (u32At s (t + 20)) (trailerStart g) && eqb (u32At s (t + 24)) (mapBytes g) && eqb (u32At s (t + 28)) (imageBytes g)
     && eqb (length s) (imageBytes g)
 
--- neither "a limit broken, or a distance or length that disagrees" nor one of the two last u32 not 0
+-- neither "a limit broken, or a distance or length that disagrees" nor a last u32 that is not 0
 unfoldable pub fitting : List ℕ → Bool
 fitting s = let g = shapeOf s in withinLimits g && agreeing s g && spareZero s g

@@ -20,6 +20,9 @@ pub record Limits (g : Shape) : Type 0 where
   pub m-high : g .m ≤ g .c + maxSpareMaps
   pub n-low : g .p ≤ g .n
   pub n-high : g .n ≤ g .p * g .m
+  -- "R, the reserved units, 0 to N-P", and "Edition 1 behaves as R = 0"
+  pub r-high : g .r + g .p ≤ g .n
+  pub r-first : g .edition ≡ firstEdition → g .r ≡ 0
 
 -- the shape g that an image says is within the limits and agrees with its length
 pub record Shaped (s : List ℕ) (g : Shape) : Type 0 where

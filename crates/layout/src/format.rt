@@ -9,9 +9,9 @@ use crate::MAX_CHUNK_UNITS;
 use crate::MAX_CHUNKS;
 use crate::MAX_MAPS;
 use crate::MAX_UNITS;
+use crate::RESERVED_AT;
 use crate::Refusal;
 use crate::SIZES_AT;
-use crate::SPARE_AT;
 use crate::Shape;
 use crate::TAG;
 use crate::UNITS_AT;
@@ -23,8 +23,8 @@ ghost use mathlib.Core.List.{_++_};
 ghost use Prim.Native.Nat.{_+_, _*_, _≤_};
 ghost use lib.ListN.{length, drop, replicate};
 ghost use lib.Seq.{sets};
-ghost use Rattle.layout.specs.Layout.{edition1, edition2, withinLimits, head, tag, shapeBytes, sizeBytes, spareBytes};
-ghost use Rattle.layout.specs.Format.{formatAnswer, formatImage, format2Answer, format2Image};
+ghost use Rattle.layout.specs.Layout.{edition1, edition2, withinLimits, head, tag, shapeBytes, sizeBytes, addedBytes};
+ghost use Rattle.layout.specs.Format.{formatAnswer, formatImage};
 
 // Fills the first `end` bytes with 255.
 fn fill(image: &mut [u8], end: usize)
@@ -78,20 +78,20 @@ fn put_sizes(image: &mut [u8], at: usize, g: Shape)
 }
 
 // Stores what follows edition 1's fields, from `at`.
-fn put_spare(image: &mut [u8], at: usize, g: Shape)
+fn put_added(image: &mut [u8], at: usize, g: Shape)
     requires { ⌜ (at + 8 * head g ≤ length (now image)) × (withinLimits g ≡ true) ⌝ }
-    ensures { λ _. ⌜ now (image .exit) ≡ sets (now (image .entry)) at (spareBytes g) ⌝ }
+    ensures { λ _. ⌜ now (image .exit) ≡ sets (now (image .entry)) at (addedBytes g) ⌝ }
 {
     if g.edition != FIRST_EDITION {
-        words::put_u32(image, at, 0);
+        words::put_u32(image, at, g.r);
         words::put_u32(image, at + 4, 0);
     }
 }
 
 // Writes the image of a fresh volume of a shape in 32-bit numbers, or refuses it or the buffer's length and changes nothing.
-fn format_shape(image: &mut [u8], edition: u32, p: u32, c: u32, m: u32, n: u32) -> Formatted
-    ensures { λ r. ⌜ r ≡ formatAnswer (record { edition = edition; p = p; c = c; m = m; n = n }) (now (image .entry)) ⌝ }
-    ensures { λ r. ⌜ now (image .exit) ≡ formatImage (record { edition = edition; p = p; c = c; m = m; n = n }) (now (image .entry)) ⌝ }
+fn format_shape(image: &mut [u8], edition: u32, p: u32, c: u32, m: u32, n: u32, r: u32) -> Formatted
+    ensures { λ x. ⌜ x ≡ formatAnswer (record { edition = edition; p = p; c = c; m = m; n = n; r = r }) (now (image .entry)) ⌝ }
+    ensures { λ x. ⌜ now (image .exit) ≡ formatImage (record { edition = edition; p = p; c = c; m = m; n = n; r = r }) (now (image .entry)) ⌝ }
 {
     let g = Shape {
         edition,
@@ -99,6 +99,7 @@ fn format_shape(image: &mut [u8], edition: u32, p: u32, c: u32, m: u32, n: u32) 
         c,
         m,
         n,
+        r,
     };
     if !trailers::within_limits(g) {
         return Formatted::Refused(Refusal::Geometry);
@@ -110,14 +111,22 @@ fn format_shape(image: &mut [u8], edition: u32, p: u32, c: u32, m: u32, n: u32) 
     fill(image, start);
     put_shape(image, start, g);
     put_sizes(image, start + SIZES_AT, g);
-    put_spare(image, start + SPARE_AT, g);
+    put_added(image, start + RESERVED_AT, g);
     Formatted::Done
 }
 
-// The same for any four numbers: those past the limits are refused before they are cut to 32 bits.
-fn format_edition(image: &mut [u8], edition: u32, p: u64, c: u64, m: u64, n: u64) -> Formatted
-    ensures { λ r. ⌜ r ≡ formatAnswer (record { edition = edition; p = p; c = c; m = m; n = n }) (now (image .entry)) ⌝ }
-    ensures { λ r. ⌜ now (image .exit) ≡ formatImage (record { edition = edition; p = p; c = c; m = m; n = n }) (now (image .entry)) ⌝ }
+// The same for any five numbers: those past the limits are refused before they are cut to 32 bits.
+fn format_edition(
+    image: &mut [u8],
+    edition: u32,
+    p: u64,
+    c: u64,
+    m: u64,
+    n: u64,
+    r: u64,
+) -> Formatted
+    ensures { λ x. ⌜ x ≡ formatAnswer (record { edition = edition; p = p; c = c; m = m; n = n; r = r }) (now (image .entry)) ⌝ }
+    ensures { λ x. ⌜ now (image .exit) ≡ formatImage (record { edition = edition; p = p; c = c; m = m; n = n; r = r }) (now (image .entry)) ⌝ }
 {
     if p > MAX_CHUNK_UNITS as u64 {
         return Formatted::Refused(Refusal::Geometry);
@@ -131,7 +140,18 @@ fn format_edition(image: &mut [u8], edition: u32, p: u64, c: u64, m: u64, n: u64
     if n > MAX_UNITS as u64 {
         return Formatted::Refused(Refusal::Geometry);
     }
-    format_shape(image, edition, p as u32, c as u32, m as u32, n as u32)
+    if r > MAX_UNITS as u64 {
+        return Formatted::Refused(Refusal::Geometry);
+    }
+    format_shape(
+        image,
+        edition,
+        p as u32,
+        c as u32,
+        m as u32,
+        n as u32,
+        r as u32,
+    )
 }
 
 // Writes the image of a fresh volume of edition 1, or refuses and changes nothing.
@@ -139,16 +159,13 @@ pub fn format(image: &mut [u8], p: u64, c: u64, m: u64, n: u64) -> Formatted
     ensures { λ r. ⌜ r ≡ formatAnswer (edition1 p c m n) (now (image .entry)) ⌝ }
     ensures { λ r. ⌜ now (image .exit) ≡ formatImage (edition1 p c m n) (now (image .entry)) ⌝ }
 {
-    format_edition(image, FIRST_EDITION, p, c, m, n)
+    format_edition(image, FIRST_EDITION, p, c, m, n, 0)
 }
 
-// The same of edition 2, with no unit reserved: r must be 0.
+// The same of edition 2, with the first r units reserved.
 pub fn format2(image: &mut [u8], p: u64, c: u64, m: u64, n: u64, r: u64) -> Formatted
-    ensures { λ x. ⌜ x ≡ format2Answer (edition2 p c m n) r (now (image .entry)) ⌝ }
-    ensures { λ x. ⌜ now (image .exit) ≡ format2Image (edition2 p c m n) r (now (image .entry)) ⌝ }
+    ensures { λ x. ⌜ x ≡ formatAnswer (edition2 p c m n r) (now (image .entry)) ⌝ }
+    ensures { λ x. ⌜ now (image .exit) ≡ formatImage (edition2 p c m n r) (now (image .entry)) ⌝ }
 {
-    if r != 0 {
-        return Formatted::Refused(Refusal::Geometry);
-    }
-    format_edition(image, LAST_EDITION, p, c, m, n)
+    format_edition(image, LAST_EDITION, p, c, m, n, r)
 }

@@ -35,10 +35,13 @@ pub fn map_word_place(g: Shape, k: usize, j: usize) -> usize
     c + k * w + j
 }
 
-// Whether a number is a unit of the volume.
+// Whether a number is a unit that a chunk may hold: below N, and not reserved.
 pub fn is_unit(g: Shape, u: u64) -> bool
     ensures { λ r. ⌜ r ≡ isUnit g u ⌝ }
 {
+    if u < g.r as u64 {
+        return false;
+    }
     u < g.n as u64
 }
 

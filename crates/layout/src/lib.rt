@@ -36,7 +36,7 @@ pub const LAST_EDITION: u32 = 2;
 // The trailer: its bytes in edition 1, those that a later one adds, and the four that it begins with.
 pub const TRAILER_BYTES: usize = 32;
 
-pub const SPARE_BYTES: usize = 8;
+pub const ADDED_BYTES: usize = 8;
 
 pub const TAG: [u8; 4] = *b"RMAP";
 
@@ -45,7 +45,7 @@ pub const MAX_MAP_WORDS: u32 = LAST_EDITION - FIRST_EDITION + MAX_CHUNK_UNITS;
 
 pub const MAX_IMAGE_BYTES: usize = 8 * (MAX_CHUNKS + MAX_MAPS * MAX_MAP_WORDS) as usize
     + TRAILER_BYTES
-    + SPARE_BYTES;
+    + ADDED_BYTES;
 
 // Where its fields stand, from its first byte on: the distances lead back to the logical map and to the chunk maps.
 pub(crate) const VERSION_AT: usize = 4;
@@ -66,9 +66,9 @@ pub(crate) const MAPS_BACK_AT: usize = 24;
 
 pub(crate) const LENGTH_AT: usize = 28;
 
-pub(crate) const SPARE_AT: usize = 32;
+pub(crate) const RESERVED_AT: usize = 32;
 
-pub(crate) const LAST_SPARE_AT: usize = 36;
+pub(crate) const SPARE_AT: usize = 36;
 
 // Why a call refuses: the rows of document 01's table, with the place that each gives.
 pub enum Refusal {
@@ -98,11 +98,13 @@ pub enum Trailer {
     Refused(Refusal),
 }
 
-// The shape of a volume: its edition, and document 01's P, C, M and N: units in a chunk, chunks, chunk maps, backing units.
+// The shape of a volume: its edition, document 01's P, C, M and N (units in a chunk, chunks, chunk maps, backing units), and R: the first R backing units
+// are reserved. Edition 1 has none.
 pub struct Shape {
     pub edition: u32,
     pub p: u32,
     pub c: u32,
     pub m: u32,
     pub n: u32,
+    pub r: u32,
 }

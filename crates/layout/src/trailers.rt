@@ -1,9 +1,9 @@
 // The trailer: read and judged.
+use crate::ADDED_BYTES;
 use crate::CHUNK_UNITS_AT;
 use crate::CHUNKS_AT;
 use crate::FIRST_EDITION;
 use crate::LAST_EDITION;
-use crate::LAST_SPARE_AT;
 use crate::LENGTH_AT;
 use crate::LINKS_BACK_AT;
 use crate::MAPS_AT;
@@ -14,9 +14,9 @@ use crate::MAX_SPARE_MAPS;
 use crate::MIN_CHUNK_UNITS;
 use crate::MIN_CHUNKS;
 use crate::MIN_SPARE_MAPS;
+use crate::RESERVED_AT;
 use crate::Refusal;
 use crate::SPARE_AT;
-use crate::SPARE_BYTES;
 use crate::Shape;
 use crate::TAG;
 use crate::TRAILER_BYTES;
@@ -28,11 +28,22 @@ ghost use mathlib.Core.Path.{_≡_};
 ghost use mathlib.Core.Bool.{true, cond};
 ghost use Prim.Native.Nat.{_+_, _-_, _*_, _≤_};
 ghost use lib.ListN.{length};
-ghost use Rattle.layout.specs.Layout.{firstEdition, lastEdition, withinLimits, taggedAt, knownAs, editionOf, known, shapeOf, agreeing, spareZero, mapBytes, trailerStart, trailerBytes, imageBytes};
+ghost use Rattle.layout.specs.Layout.{firstEdition, lastEdition, maxReserved, withinLimits, taggedAt, knownAs, editionOf, known, reservedAt, shapeOf, agreeing, spareZero, mapBytes, trailerStart, trailerBytes, imageBytes};
 ghost use Rattle.layout.specs.Layout.{maxMapsWords, maxWords, maxTrailerBytes, maxImageBytes};
 ghost use Rattle.layout.specs.Trailer.{shapeOutcome, trailerOutcome};
 
-// Whether a shape is within document 01's limits.
+// The most units that a shape may reserve.
+fn max_reserved(g: Shape) -> u32
+    requires { ⌜ g .p ≤ g .n ⌝ }
+    ensures { λ r. ⌜ r ≡ maxReserved g ⌝ }
+{
+    if g.edition == FIRST_EDITION {
+        return 0;
+    }
+    g.n - g.p
+}
+
+// Whether a shape is within its limits.
 pub(crate) fn within_limits(g: Shape) -> bool
     ensures { λ r. ⌜ r ≡ withinLimits g ⌝ }
 {
@@ -68,7 +79,10 @@ pub(crate) fn within_limits(g: Shape) -> bool
     if n < p {
         return false;
     }
-    n <= p * m
+    if p * m < n {
+        return false;
+    }
+    g.r <= max_reserved(g)
 }
 
 // The bytes of an edition's trailer.
@@ -76,7 +90,7 @@ pub(crate) fn trailer_bytes(edition: u32) -> usize
     requires { ⌜ (firstEdition ≤ edition) × (edition ≤ lastEdition) ⌝ }
     ensures { λ r. ⌜ (r ≡ trailerBytes edition) × (r ≤ maxTrailerBytes) ⌝ }
 {
-    TRAILER_BYTES + SPARE_BYTES * (edition - FIRST_EDITION) as usize
+    TRAILER_BYTES + ADDED_BYTES * (edition - FIRST_EDITION) as usize
 }
 
 // Whether the tag and a version stand at byte t.
@@ -125,6 +139,17 @@ fn known_edition(s: &[u8]) -> u32
     0
 }
 
+// How many units are reserved, as an edition's trailer at byte t says.
+fn reserved_at(s: &[u8], edition: u32, t: usize) -> u32
+    requires { ⌜ (firstEdition ≤ edition) × (edition ≤ lastEdition) × (t + trailerBytes edition ≤ length (now s)) ⌝ }
+    ensures { λ r. ⌜ r ≡ reservedAt (now (s .entry)) edition t ⌝ }
+{
+    if edition == FIRST_EDITION {
+        return 0;
+    }
+    words::get_u32(s, t + RESERVED_AT)
+}
+
 // The shape that the trailer says.
 fn shape_of(s: &[u8], edition: u32) -> Shape
     requires { ⌜ (edition ≡ editionOf (now s)) × (firstEdition ≤ edition) × (edition ≤ lastEdition) × (trailerBytes edition ≤ length (now s)) ⌝ }
@@ -137,6 +162,7 @@ fn shape_of(s: &[u8], edition: u32) -> Shape
         c: words::get_u32(s, t + CHUNKS_AT),
         m: words::get_u32(s, t + MAPS_AT),
         n: words::get_u32(s, t + UNITS_AT),
+        r: reserved_at(s, edition, t),
     }
 }
 
@@ -185,7 +211,7 @@ fn agrees(s: &[u8], g: Shape) -> bool
     s.len() == total
 }
 
-// Whether what follows edition 1's fields is 0.
+// Whether what follows the reserved units is 0.
 fn spare_is_zero(s: &[u8], g: Shape) -> bool
     requires { ⌜ (trailerBytes (g .edition) ≤ length (now s)) × (withinLimits g ≡ true) ⌝ }
     ensures { λ r. ⌜ r ≡ spareZero (now (s .entry)) g ⌝ }
@@ -194,10 +220,7 @@ fn spare_is_zero(s: &[u8], g: Shape) -> bool
         return true;
     }
     let t = s.len() - trailer_bytes(g.edition);
-    if words::get_u32(s, t + SPARE_AT) != 0 {
-        return false;
-    }
-    words::get_u32(s, t + LAST_SPARE_AT) == 0
+    words::get_u32(s, t + SPARE_AT) == 0
 }
 
 // Row 3 of the table of refusals, of bytes with an edition's tag and version: the shape that the trailer says, or the refusal.

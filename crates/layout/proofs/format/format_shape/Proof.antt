@@ -7,6 +7,7 @@ use lib.ListN.{length}
 use borrow.Author.Tests.{not-true, not-false}
 use Rattle.layout.specs.declared.Shape.{Shape}
 use Rattle.layout.specs.Layout.{withinLimits, imageBytes}
+use Rattle.layout.proofs.Limits.{limits}
 use Rattle.layout.proofs.Formatting.{fresh-run, refused, done, bad-limits, bad-length, good}
 use borrow.Author.Needs.{needs}
 use Rattle.layout.proofs.format.format_shape.Statement.{statement}
@@ -14,7 +15,7 @@ use Rattle.layout.proofs.format.format_shape.Tie as tie
 
 -- the shape that is asked for, and what the two tests say of it
 abbrev asked : tie.Start → Shape
-asked c = record { edition = c .args .edition; p = c .args .p; c = c .args .c; m = c .args .m; n = c .args .n }
+asked c = record { edition = c .args .edition; p = c .args .p; c = c .args .c; m = c .args .m; n = c .args .n; r = c .args .r }
 
 limited : (c : tie.Else1) → withinLimits (asked (c .before .before .before)) ≡ true
 limited c = sym (c .before .within-limits .ensures) ∙ not-false (c .before .within-limits .result) (c .if1 .left)
@@ -66,11 +67,11 @@ put-sizes-requires c κs =
     let tested = c .before .before .before .before .before .before .before .before .before .before in
     (omega (arith, sized tested), limited (tested .before .before))
 
-add-put-spare : tie.Need-add-put-spare
-add-put-spare c = search needs
+add-put-added : tie.Need-add-put-added
+add-put-added c = search needs
 
-put-spare-requires : tie.Need-put-spare-requires
-put-spare-requires c κs =
+put-added-requires : tie.Need-put-added-requires
+put-added-requires c κs =
     let tested = c .before .before .before .before .before .before .before .before .before .before .before .before .before .before in
     (omega (arith, sized tested), limited (tested .before .before))
 
@@ -86,9 +87,9 @@ returns-3 c =
     let a = tested .before .before .before .before .before in
     let s = now (a .args .image) in
     let right = done (asked a) s (good (asked a) s (limited (tested .before .before)) (sized tested)) in
-    let stored = fresh-run s (asked a) (sized tested) ∙ right .1 in
+    let stored = fresh-run s (asked a) (limits (asked a) (limited (tested .before .before))) (sized tested) ∙ right .1 in
     let start = filled .before .before .trailer-start .ensures .0 in
-    (right .0, rw (c .before .before .put-spare .ensures, sizes .put-sizes .ensures, shape .put-shape .ensures, filled .fill .ensures, start) stored)
+    (right .0, rw (c .before .before .put-added .ensures, sizes .put-sizes .ensures, shape .put-shape .ensures, filled .fill .ensures, start) stored)
 
 pub format-shape-spec : {M : Type 1} → statement M
 format-shape-spec =
@@ -105,7 +106,7 @@ format-shape-spec =
     put-shape-requires
     add-put-sizes
     put-sizes-requires
-    add-put-spare
-    put-spare-requires
+    add-put-added
+    put-added-requires
     same-length
     returns-3)

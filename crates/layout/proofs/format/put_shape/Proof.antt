@@ -2,6 +2,7 @@
 use Rattle.layout.proofs.Formatting.{shape-run}
 use Rattle.layout.proofs.Limits.{limits}
 use native.Mathlib.Omega.{arith}
+use mathlib.Core.Path.{_∙_}
 use denote.Ref.{now}
 use borrow.Author.Needs.{needs}
 use Rattle.layout.proofs.format.put_shape.Statement.{statement}
@@ -53,9 +54,16 @@ same-length c = search needs
 
 returns : tie.Need-returns
 returns c =
-    let named = c .before .before .before .before .before .before .before .before .before .before .before .before in
-    let a = named .before .before .before .before .before .before .before .before .before .before .before .before .before .args in
-    cc (shape-run (now (a .image)) (a .t) (a .g))
+    let fifth = c .before .before in
+    let fourth = fifth .before .before .before .before in
+    let third = fourth .before .before .before .before in
+    let second = third .before .before .before .before in
+    let first = second .before .before .before .before in
+    let tagged = first .before .before .before .before in
+    let a = tagged .before .before .before .args in
+    fifth .put-u323 .ensures
+    ∙ rw (fourth .put-u322 .ensures, third .put-u32 .ensures, second .put-u162 .ensures, first .put-u16 .ensures, tagged .put-tag .ensures)
+    (shape-run (now (a .image)) (a .t) (a .g))
 
 pub put-shape-spec : {M : Type 1} → statement M
 put-shape-spec =

@@ -1,5 +1,6 @@
 -- `layout::format::put_sizes` meets its contract: its stores one after another are the trailer's distances and length, by `size-run`.
 use denote.Ref.{now}
+use mathlib.Core.Path.{_∙_}
 use Rattle.layout.proofs.Formatting.{size-run}
 use borrow.Author.Needs.{needs}
 use Rattle.layout.proofs.format.put_sizes.Statement.{statement}
@@ -34,8 +35,15 @@ same-length c = search needs
 
 returns : tie.Need-returns
 returns c =
-    let a = c .before .before .before .before .before .before .before .before .before .before .before .before .before .before .before .before .args in
-    cc (size-run (now (a .image)) (a .at) (a .g))
+    let third = c .before .before in
+    let second = third .before .before .before .before .before in
+    let first = second .before .before .before .before in
+    let told = first .before .before in
+    let a = told .before .before .before .args in
+    let start = told .before .trailer-start .ensures .0 in
+    third .put-u323 .ensures
+    ∙ rw (second .put-u322 .ensures, first .put-u32 .ensures, third .before .image-bytes .ensures .0, told .map-bytes .ensures .0, start)
+    (size-run (now (a .image)) (a .at) (a .g))
 
 pub put-sizes-spec : {M : Type 1} → statement M
 put-sizes-spec =

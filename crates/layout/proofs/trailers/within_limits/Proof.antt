@@ -1,6 +1,9 @@
 -- `layout::trailers::within_limits` meets its contract: the tests are the definition's, in its order.
 use Rattle.layout.proofs.Limits.{tests, product-high}
-use Rattle.layout.specs.Layout.{withinLimits}
+use Rattle.layout.specs.Layout.{maxReserved, withinLimits}
+use Prim.Native.Nat.{ℕ}
+use mathlib.Core.Path.{_≡_, ap, _∙_}
+use lib.Dec.{leb}
 use native.Mathlib.Omega.{arith}
 use borrow.Author.Needs.{needs}
 use Rattle.layout.proofs.trailers.within_limits.Statement.{statement}
@@ -48,13 +51,22 @@ returns-9 : tie.Need-returns-9
 unfolding withinLimits
 returns-9 c = search tests
 
-mul-result : tie.Need-mul-result
-mul-result c = let g = c .before .before .before .before .before .before .before .before .before .args .g in
+mul-if10 : tie.Need-mul-if10
+mul-if10 c = let g = c .before .before .before .before .before .before .before .before .before .args .g in
     omega (arith, product-high (g .p) (g .m) (omega arith) (omega arith))
 
 returns-10 : tie.Need-returns-10
 unfolding withinLimits
 returns-10 c = search tests
+
+max-reserved-requires : tie.Need-max-reserved-requires
+max-reserved-requires c κs = search needs
+
+returns-11 : tie.Need-returns-11
+unfolding withinLimits
+returns-11 c = let g = c .before .before .before .before .before .before .before .before .before .before .before .before .args .g in
+    let rest : leb (g .r) (maxReserved g) ≡ withinLimits g = search tests in
+    ap (λ (k : ℕ). leb (g .r) k) (c .before .max-reserved .ensures) ∙ rest
 
 pub within-limits-spec : {M : Type 1} → statement M
 within-limits-spec =
@@ -71,5 +83,7 @@ within-limits-spec =
     add-if8
     returns-8
     returns-9
-    mul-result
-    returns-10)
+    mul-if10
+    returns-10
+    max-reserved-requires
+    returns-11)
