@@ -8,14 +8,14 @@ use Rattle.bitset.specs.Bits.{bits, bitSet}
 use Rattle.layout.specs.declared.Shape.{Shape}
 use Rattle.layout.specs.declared.Refusal.the-variants.{Short, BadLink, BadMap, Shared}
 use Rattle.layout.specs.Trailer.{trailerOutcome}
-use Rattle.layout.specs.Layout.{X, isUnit, mapWords, fresh, putWord, trailerOf, shapeBytes, sizeBytes, spareBytes, taggedAt, knownAs, editionOf, known, fitting, withinLimits, shapeOf, agreeing, spareZero, wordsOf}
+use Rattle.layout.specs.Layout.{X, edition1, isUnit, mapWords, fresh, putWord, trailerOf, shapeBytes, sizeBytes, addedBytes, taggedAt, knownAs, editionOf, known, fitting, withinLimits, maxReserved, reservedAt, shapeOf, agreeing, spareZero, wordsOf}
 use Rattle.image.specs.declared.Verdict.the-variants.{Refused, Passed}
 use Rattle.image.specs.Soundness.{leading, unitsOf}
 use Rattle.image.specs.Verdicts.{verdict, chunkVerdict, badLink, badMap, doubleClaim, firstClaim, contested, clash, wellFormed, sizeFits, goodForm}
 use Rattle.image.specs.Free.{freeUnits, freeMaps, freeUnit, freeMap, heldUnits}
 
 abbrev pub small : Shape
-small = record { edition = 1; p = 4; c = 4; m = 5; n = 20 }
+small = edition1 4 4 5 20
 
 -- after the third write: chunk 2 has map 0 with units 0 and 1, chunk 0 map 2 with units 3 and 4; map 1, which no chunk names any more, still says unit 2
 abbrev pub third : List ℕ
@@ -60,5 +60,5 @@ worked :
     × (freeUnits third ≡ 2 ∷ from 5 15)
     × (freeMaps third ≡ 1 ∷ 3 ∷ 4 ∷ [])
     × (bitSet (freeUnit third) 2 ≡ 1048548 ∷ 0 ∷ [])
-unfolding joined verdict trailerOutcome chunkVerdict badLink badMap doubleClaim firstClaim contested clash wellFormed leading unitsOf heldUnits freeUnits freeUnit freeMaps freeMap lowestFrom all any keep member distinct disjoint known fitting withinLimits agreeing spareZero knownAs taggedAt editionOf isUnit mapWords sizeFits goodForm fresh trailerOf shapeBytes sizeBytes spareBytes number digits from shapeOf wordsOf bits bitSet
+unfolding joined verdict trailerOutcome chunkVerdict badLink badMap doubleClaim firstClaim contested clash wellFormed leading unitsOf heldUnits freeUnits freeUnit freeMaps freeMap lowestFrom all any keep member distinct disjoint known fitting withinLimits maxReserved reservedAt agreeing spareZero knownAs taggedAt editionOf isUnit mapWords sizeFits goodForm fresh trailerOf shapeBytes sizeBytes addedBytes number digits from shapeOf wordsOf bits bitSet
 worked = (refl, refl, refl, refl, refl, refl, refl, refl, refl, refl, refl, refl, refl, refl)

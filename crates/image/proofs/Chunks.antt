@@ -16,10 +16,10 @@ use Rattle.search.proofs.Ranges.{length-from}
 use Rattle.search.proofs.Distinct.{disjoint-at, disjoint-intro}
 use Rattle.search.proofs.Mapping.{getD-map-from}
 use Rattle.layout.specs.declared.Shape.{Shape}
-use Rattle.layout.specs.Layout.{X, unitsFor, isUnit, head, unitWords, shapeOf, linkOf, wordsOf, mapWords, wordAt, mapWordPlace}
+use Rattle.layout.specs.Layout.{X, unitsFor, isUnit, head, unitWords, shapeOf, fitting, linkOf, wordsOf, mapWords, wordAt, mapWordPlace}
 use Rattle.layout.specs.Shaped.{Shaped, mapOf, unitWordsOf}
-use Rattle.layout.proofs.Limits.{unit-below, map-words}
-use Rattle.image.specs.Soundness.{mapped, unitsOf, leading, Named, MapForm}
+use Rattle.layout.proofs.Limits.{fitting-limits, units-high, unit-below, unit-past, map-words}
+use Rattle.image.specs.Soundness.{mapped, namedWords, unitsOf, leading, Named, MapForm}
 use Rattle.image.specs.Verdicts.{wellFormed, sizeFits, goodForm, goodLink, goodMap, clash}
 use Rattle.image.specs.Claims.{Tested, heldIn}
 use Rattle.image.proofs.Leading.{length-leading, leading-all, form-none, form-some, form-of, form-leading, well-formed}
@@ -214,3 +214,20 @@ module _ (s : List ℕ) (z : Tested s) where
   -- and so has a map
   pub map-owner : (i j : ℕ) → i < shapeOf s .c → j < shapeOf s .c → mapped s i ≡ true → mapped s j ≡ true → linkOf s i ≡ linkOf s j → i ≡ j
   map-owner i j h l a b e = one-chunk i j h l (λ k. clash-links s i j k a b e) (λ k. clash-links s j i k b a (sym e))
+
+-- ---- reserved units
+
+-- a map that names one, in any of the words that may name units, is of the wrong form
+pub reserved-bad : (s : List ℕ) (i a : ℕ) → fitting s ≡ true → Named s i → a < shapeOf s .p
+    → getD (namedWords (shapeOf s) s i) a 0 < shapeOf s .r → goodMap s i ≡ false
+reserved-bad s i a f n l low =
+    is-false (goodMap s i) (λ e.
+    let g = shapeOf s in
+    let lim = fitting-limits s f in
+    let word = getD (namedWords g s i) a 0 in
+    let k = length (leading (isUnit g) (namedWords g s i)) in
+    let form = map-form g (mapOf s (linkOf s i)) (sym (named-map s i n) ∙ e) .units in
+    ⊎-elim (λ q. let h = unit-past g word (form .units a (ltb-true a k q)) in omega arith)
+    (λ q. let x = form .rest a (ltb-false a k q) (let w = length-unitWords g s (linkOf s i) in omega arith) in
+    omega (arith, lim .r-high, units-high g lim))
+    (either (ltb a k)))

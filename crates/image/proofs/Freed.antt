@@ -10,12 +10,12 @@ use borrow.Author.Tests.{eqb-true, eqb-false, not-true}
 use Rattle.search.specs.Search.{member}
 use Rattle.search.proofs.Bools.{either, is-false, same, and-left, and-right, and-intro, or-cases, or-left, or-right, not-of-false}
 use Rattle.layout.specs.declared.Shape.{Shape}
-use Rattle.layout.specs.Layout.{shapeOf, linkOf}
+use Rattle.layout.specs.Layout.{isUnit, shapeOf, linkOf}
 use Rattle.image.specs.Soundness.{unitsOf, Sound}
 use Rattle.image.specs.Free.{freeUnit, freeMap}
-use Rattle.image.proofs.Chunks.{units-below, owner}
+use Rattle.image.proofs.Chunks.{units-are-units, owner}
 use Rattle.image.proofs.Wording.{sound-shape, sound-tested}
-use Rattle.image.proofs.Room.{freeUnit-below, freeUnit-unheld, freeUnit-intro, freeMap-unnamed, freeMap-intro}
+use Rattle.image.proofs.Room.{freeUnit-unit, freeUnit-unheld, freeUnit-intro, freeMap-unnamed, freeMap-intro}
 
 -- chunk c of the sound image s changed, and t is a sound image of the same shape
 module _ (g : Shape) (s t : List ℕ) (z : Sound g s) (w : Sound g t) (c : ℕ) (b : c < g .c) where
@@ -44,7 +44,7 @@ module _ (g : Shape) (s t : List ℕ) (z : Sound g s) (w : Sound g t) (c : ℕ) 
     was-free e =
         ⊎-elim (λ q. or-right (freeUnit s u) (member u (unitsOf s c)) q)
         (λ q. or-left (freeUnit s u) (member u (unitsOf s c))
-        (freeUnit-intro s u (subst (λ (k : ℕ). u < k) (ap (λ (k : Shape). k .n) (sound-shape g t w ∙ sym (sound-shape g s z))) (freeUnit-below t u e))
+        (freeUnit-intro s u (subst (λ (k : Shape). isUnit k u ≡ true) (sound-shape g t w ∙ sym (sound-shape g s z)) (freeUnit-unit t u e))
         (λ i h. held-now i (from-s i h) q (freeUnit-unheld t u e i (to-t i (from-s i h))))))
         (either (member u (unitsOf s c)))
 
@@ -58,10 +58,10 @@ module _ (g : Shape) (s t : List ℕ) (z : Sound g s) (w : Sound g t) (c : ℕ) 
         elsewhere q (inl f) = freeUnit-unheld s u f i (to-s i h)
         elsewhere q (inr m) = is-false (member u (unitsOf s i)) (λ k. q (owner s (sound-tested g s z) u i c (to-s i h) (to-s c b) k m))
 
-    is-unit : (freeUnit s u ≡ true) ⊎ (member u (unitsOf s c) ≡ true) → u < shapeOf t .n
+    is-unit : (freeUnit s u ≡ true) ⊎ (member u (unitsOf s c) ≡ true) → isUnit (shapeOf t) u ≡ true
     is-unit e =
-        subst (λ (k : ℕ). u < k) (ap (λ (k : Shape). k .n) (sound-shape g s z ∙ sym (sound-shape g t w)))
-        (⊎-elim (λ f. freeUnit-below s u f) (λ m. units-below s u c m) e)
+        subst (λ (k : Shape). isUnit k u ≡ true) (sound-shape g s z ∙ sym (sound-shape g t w))
+        (⊎-elim (λ f. freeUnit-unit s u f) (λ m. units-are-units s u c m) e)
 
     pub freed-unit : freeUnit t u ≡ ((freeUnit s u || member u (unitsOf s c)) && not (member u us))
     freed-unit =

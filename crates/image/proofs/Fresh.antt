@@ -16,6 +16,7 @@ use Rattle.search.specs.Search.{below, any, member}
 use Rattle.layout.specs.declared.Shape.{Shape}
 use Rattle.layout.specs.Layout.{X, trailerStart, trailerOf, wordAt, linkOf, shapeOf, isUnit, fresh}
 use Rattle.layout.specs.Shaped.{Limits, wordCount}
+use Rattle.layout.proofs.Limits.{limits-hold}
 use Rattle.layout.proofs.Told.{length-told}
 use Rattle.image.specs.Soundness.{unitsOf, Sound}
 use Rattle.image.specs.Free.{freeUnit, freeMap}
@@ -43,7 +44,7 @@ module _ (g : Shape) (l : Limits g) where
       let full : length (replicate {A = ℕ} (trailerStart g) 255) ≡ trailerStart g = length-replicate {A = ℕ} (trailerStart g) 255 in
       record {
         limits = l;
-        size = length-told (replicate (trailerStart g) 255) g full;
+        size = length-told (replicate (trailerStart g) 255) g full (limits-hold g l);
         trailer = rw full at (drop-append-seam (replicate (trailerStart g) 255) (trailerOf g));
         entries = λ i h m. absurd (m (absent-fresh i h));
         maps = λ i j h k m e. absurd (m (absent-fresh i h));

@@ -1,48 +1,56 @@
 -- What is free, and how much of it there is.
 --     freeUnit-.., freeMap-..     the tests against what they say of every chunk
 --     some-map-free               a fitting image has a free map
---     units-free                  with N at least (C+1)·P, at least P units are free
---     free-and-held               in a sound image free and held units are N in all
-use Prim.Native.Nat.{ℕ, _+_, _*_, _≤_, _<_}
+--     units-free                  with N-R at least (C+1)·P, at least P units are free
+--     free-and-held               in a sound image free and held units are N-R in all
+use Prim.Native.Nat.{ℕ, _+_, _-_, _*_, _≤_, _<_}
 use native.Mathlib.Omega.{arith}
-use mathlib.Core.Path.{_≡_, sym, ap, subst, _∙_}
+use mathlib.Core.Path.{_≡_, sym, ap, ap₂, subst, _∙_}
 use mathlib.Core.Logic.{⊎-elim}
-use mathlib.Core.Bool.{true, false, not}
-use mathlib.Core.List.{List, [], _∷_}
+use mathlib.Core.Bool.{Bool, true, false, not, _&&_}
+use mathlib.Core.List.{List, [], _∷_, _++_}
 use lib.ListN.{length}
-use lib.Dec.{eqb, ltb}
-use borrow.Author.Tests.{ltb-true, lt-ltb, eqb-false, ne-eqb, not-true}
-use Rattle.search.specs.Search.{below, keep, member, distinct, joined}
+use lib.Dec.{eqb, ltb, leb}
+use borrow.Author.Tests.{ltb-true, lt-ltb, leb-true, leb-false, eqb-false, ne-eqb, not-true}
+use Rattle.search.specs.Search.{from, below, keep, member, distinct, joined}
+use Rattle.layout.specs.declared.Shape.{Shape}
 use Rattle.layout.specs.Layout.{isUnit, shapeOf, linkOf, fitting}
 use Rattle.image.specs.Claims.{Tested}
 use Rattle.image.specs.Soundness.{unitsOf}
 use Rattle.image.specs.Free.{freeUnit, freeMap, freeUnits, freeMaps, heldUnits}
-use Rattle.search.proofs.Bools.{contradict, and-left, and-right, and-intro, not-of-false, is-false, same}
+use Rattle.search.proofs.Bools.{contradict, either, and-left, and-right, and-intro, not-of-false, is-false, same}
 use Rattle.search.proofs.Members.{member-nil, member-cons, member-head}
-use Rattle.search.proofs.Ranges.{member-below, any-below, any-below-intro, any-below-none, any-below-none-intro, length-from}
-use Rattle.search.proofs.Kept.{keep-ext}
+use Rattle.search.proofs.Ranges.{member-from, member-below, below-member, any-below, any-below-intro, any-below-none, any-below-none-intro, length-from}
+use Rattle.search.proofs.Kept.{keep-all, keep-none, keep-ext, keep-cut}
 use Rattle.search.proofs.Distinct.{distinct-from, distinct-keep}
-use Rattle.search.proofs.Counting.{unlisted, unlisted-exactly}
+use Rattle.search.proofs.Counting.{left-at-least, left-exactly, unlisted}
 use Rattle.search.proofs.Joined.{distinct-joined, member-joined, length-joined}
 use Rattle.search.specs.Sets.{without}
-use Rattle.layout.proofs.Limits.{fitting-limits, unit-below, below-unit}
-use Rattle.image.proofs.Chunks.{length-units, units-below, clash-units}
+use Rattle.layout.proofs.Limits.{fitting-limits, unit-below, unit-past, between-unit, reserved-no-unit}
+use Rattle.image.proofs.Chunks.{length-units, units-are-units, clash-units}
 
 -- ---- the tests
 
-pub freeUnit-below : (s : List ℕ) (u : ℕ) → freeUnit s u ≡ true → u < shapeOf s .n
+pub freeUnit-unit : (s : List ℕ) (u : ℕ) → freeUnit s u ≡ true → isUnit (shapeOf s) u ≡ true
 unfolding freeUnit
-freeUnit-below s u e = unit-below (shapeOf s) u (and-left (isUnit (shapeOf s) u) _ e)
+freeUnit-unit s u e = and-left (isUnit (shapeOf s) u) _ e
+
+pub freeUnit-below : (s : List ℕ) (u : ℕ) → freeUnit s u ≡ true → u < shapeOf s .n
+freeUnit-below s u e = unit-below (shapeOf s) u (freeUnit-unit s u e)
+
+-- no reserved unit is free
+pub freeUnit-past : (s : List ℕ) (u : ℕ) → freeUnit s u ≡ true → shapeOf s .r ≤ u
+freeUnit-past s u e = unit-past (shapeOf s) u (freeUnit-unit s u e)
 
 pub freeUnit-unheld : (s : List ℕ) (u : ℕ) → freeUnit s u ≡ true → (i : ℕ) → i < shapeOf s .c → member u (unitsOf s i) ≡ false
 unfolding freeUnit
 freeUnit-unheld s u e =
     any-below-none (λ i. member u (unitsOf s i)) (shapeOf s .c) (not-true _ (and-right (isUnit (shapeOf s) u) _ e))
 
-pub freeUnit-intro : (s : List ℕ) (u : ℕ) → u < shapeOf s .n → ((i : ℕ) → i < shapeOf s .c → member u (unitsOf s i) ≡ false) → freeUnit s u ≡ true
+pub freeUnit-intro : (s : List ℕ) (u : ℕ) → isUnit (shapeOf s) u ≡ true → ((i : ℕ) → i < shapeOf s .c → member u (unitsOf s i) ≡ false) → freeUnit s u ≡ true
 unfolding freeUnit
 freeUnit-intro s u h f =
-    and-intro (isUnit (shapeOf s) u) _ (below-unit (shapeOf s) u h)
+    and-intro (isUnit (shapeOf s) u) _ h
     (not-of-false _ (any-below-none-intro (λ i. member u (unitsOf s i)) (shapeOf s .c) f))
 
 pub freeMap-below : (s : List ℕ) (k : ℕ) → freeMap s k ≡ true → k < shapeOf s .m
@@ -97,26 +105,47 @@ free-maps-count s =
 pub some-map-free : (s : List ℕ) → fitting s ≡ true → 1 ≤ length (freeMaps s)
 some-map-free s e = let a = free-maps-count s in let l = fitting-limits s e in omega (arith, l .m-low)
 
-unheld-free : (s : List ℕ) (u : ℕ) → u < shapeOf s .n → without (λ v. true) (heldUnits s) u ≡ freeUnit s u
-unfolding heldUnits without
-unheld-free s u h =
-    same _ (freeUnit s u)
-    (λ e. freeUnit-intro s u h (any-below-none (λ i. member u (unitsOf s i)) (shapeOf s .c)
-    (sym (member-joined (unitsOf s) u (below (shapeOf s .c))) ∙ not-true _ e)))
-    (λ e. not-of-false _ (member-joined (unitsOf s) u (below (shapeOf s .c))
-    ∙ any-below-none-intro (λ i. member u (unitsOf s i)) (shapeOf s .c) (freeUnit-unheld s u e)))
+-- free is what is a unit and not held
+free-unheld : (s : List ℕ) (u : ℕ) → without (isUnit (shapeOf s)) (heldUnits s) u ≡ freeUnit s u
+unfolding freeUnit heldUnits without
+free-unheld s u = ap (λ (b : Bool). isUnit (shapeOf s) u && not b) (member-joined (unitsOf s) u (below (shapeOf s .c)))
 
-pub free-or-held : (s : List ℕ) (u : ℕ) → u < shapeOf s .n → freeUnit s u ≡ not (member u (heldUnits s))
+-- of the units each is free or held
+pub free-or-held : (s : List ℕ) (u : ℕ) → isUnit (shapeOf s) u ≡ true → freeUnit s u ≡ not (member u (heldUnits s))
 unfolding without
-free-or-held s u h = sym (unheld-free s u h)
+free-or-held s u h = sym (free-unheld s u) ∙ ap (λ (b : Bool). b && not (member u (heldUnits s))) h
 
-keep-unheld : (s : List ℕ) → keep (without (λ v. true) (heldUnits s)) (below (shapeOf s .n)) ≡ freeUnits s
+pub held-unit : (s : List ℕ) (u : ℕ) → member u (heldUnits s) ≡ true → isUnit (shapeOf s) u ≡ true
+unfolding heldUnits
+held-unit s u m =
+    let r = any-below (λ i. member u (unitsOf s i)) (shapeOf s .c) (sym (member-joined (unitsOf s) u (below (shapeOf s .c))) ∙ m) in
+    units-are-units s u (r .0) (r .2)
+
+held-below : (s : List ℕ) (u : ℕ) → member u (heldUnits s) ≡ true → u < shapeOf s .n
+held-below s u m = unit-below (shapeOf s) u (held-unit s u m)
+
+-- a shape has N-R units
+units-many : (g : Shape) → g .r ≤ g .n → length (keep (isUnit g) (below (g .n))) ≡ g .n - g .r
+units-many g h =
+    let n : g .n ≡ g .r + (g .n - g .r) = omega arith in
+    let low = keep-none (isUnit g) (from 0 (g .r)) (λ u m. reserved-no-unit g u (member-below u (g .r) m)) in
+    let high = keep-all (isUnit g) (from (0 + g .r) (g .n - g .r)) (λ u m.
+    let b = member-from u (0 + g .r) (g .n - g .r) m in between-unit g u (omega (arith, b .0)) (omega (arith, b .1))) in
+    ap (λ (k : ℕ). length (keep (isUnit g) (from 0 k))) n
+    ∙ ap length (keep-cut (isUnit g) 0 (g .r) (g .n - g .r) ∙ ap₂ (λ (a b : List ℕ). a ++ b) low high)
+    ∙ length-from (0 + g .r) (g .n - g .r)
+
+keep-unheld : (s : List ℕ) → keep (without (isUnit (shapeOf s)) (heldUnits s)) (below (shapeOf s .n)) ≡ freeUnits s
 unfolding freeUnits
-keep-unheld s = keep-ext (without (λ v. true) (heldUnits s)) (freeUnit s) (below (shapeOf s .n)) (λ u m.
-    unheld-free s u (member-below u (shapeOf s .n) m))
+keep-unheld s = keep-ext (without (isUnit (shapeOf s)) (heldUnits s)) (freeUnit s) (below (shapeOf s .n)) (λ u m. free-unheld s u)
 
-pub free-units-count : (s : List ℕ) → shapeOf s .n ≤ length (freeUnits s) + length (heldUnits s)
-free-units-count s = let a = unlisted (shapeOf s .n) (heldUnits s) in let e = ap length (keep-unheld s) in omega arith
+free-units-count : (s : List ℕ) → shapeOf s .n - shapeOf s .r ≤ length (freeUnits s) + length (heldUnits s)
+free-units-count s =
+    let g = shapeOf s in
+    let a = left-at-least (isUnit g) (below (g .n)) (heldUnits s) (distinct-from 0 (g .n)) in
+    let e = ap length (keep-unheld s) in
+    ⊎-elim (λ q. let k = units-many g (leb-true (g .r) (g .n) q) in omega arith) (λ q. let l = leb-false (g .r) (g .n) q in omega arith)
+    (either (leb (g .r) (g .n)))
 
 pub held-high : (s : List ℕ) → length (heldUnits s) ≤ shapeOf s .c * shapeOf s .p
 unfolding heldUnits
@@ -124,8 +153,8 @@ held-high s =
     let a = length-joined (unitsOf s) (shapeOf s .p) (below (shapeOf s .c)) (length-units s) in
     subst (λ (k : ℕ). length (joined (unitsOf s) (below (shapeOf s .c))) ≤ k * shapeOf s .p) (length-from 0 (shapeOf s .c)) a
 
--- with N at least (C+1)·P, refusal 9 cannot occur for one write: at least P units are free
-pub units-free : (s : List ℕ) → (shapeOf s .c + 1) * shapeOf s .p ≤ shapeOf s .n → shapeOf s .p ≤ length (freeUnits s)
+-- with N-R at least (C+1)·P, refusal 9 cannot occur for one write: at least P units are free
+pub units-free : (s : List ℕ) → (shapeOf s .c + 1) * shapeOf s .p ≤ shapeOf s .n - shapeOf s .r → shapeOf s .p ≤ length (freeUnits s)
 units-free s h = let a = free-units-count s in let b = held-high s in omega arith
 
 -- ---- a sound image: just so many
@@ -135,14 +164,11 @@ unfolding heldUnits
 distinct-held s z =
     distinct-joined (unitsOf s) 0 (shapeOf s .c) (λ j h. z .single j (omega arith)) (λ j k h l. clash-units s j k (z .apart j k h (omega arith)))
 
-pub held-below : (s : List ℕ) (u : ℕ) → member u (heldUnits s) ≡ true → u < shapeOf s .n
-unfolding heldUnits
-held-below s u m =
-    let r = any-below (λ i. member u (unitsOf s i)) (shapeOf s .c) (sym (member-joined (unitsOf s) u (below (shapeOf s .c))) ∙ m) in
-    units-below s u (r .0) (r .2)
-
-pub free-and-held : (s : List ℕ) → Tested s → length (freeUnits s) + length (heldUnits s) ≡ shapeOf s .n
+pub free-and-held : (s : List ℕ) → Tested s → length (freeUnits s) + length (heldUnits s) ≡ shapeOf s .n - shapeOf s .r
 free-and-held s z =
-    let a = unlisted-exactly (shapeOf s .n) (heldUnits s) (distinct-held s z) (held-below s) in
+    let n = shapeOf s .n in
+    let a = left-exactly (isUnit (shapeOf s)) (below n) (heldUnits s) (distinct-from 0 n) (distinct-held s z) (λ u m.
+    (below-member u n (held-below s u m), held-unit s u m)) in
     let e = ap length (keep-unheld s) in
+    let k = units-many (shapeOf s) (omega (arith, fitting-limits s (z .fitting) .r-high)) in
     omega arith

@@ -1,38 +1,41 @@
 -- The theorems of this crate that a reader wants: nothing else cites them. `Bytes s` says that each element of s is below 256, as every lent
 -- image's is.
-use Prim.Native.Nat.{ℕ, _+_, _*_, _≤_, _<_}
+use Prim.Native.Nat.{ℕ, _+_, _-_, _*_, _≤_, _<_}
+use native.Mathlib.Omega.{arith}
 use mathlib.Core.Path.{_≡_, refl, sym, ap, subst, _∙_}
 use mathlib.Core.Logic.{_⊎_, inl, inr}
 use mathlib.Core.Bool.{true, false, not}
 use mathlib.Core.List.{List}
-use lib.ListN.{length}
+use lib.ListN.{length, getD}
 use lib.Dec.{ltb}
 use Rattle.words.specs.Words.{Bytes}
 use Rattle.search.specs.Search.{member, distinct}
+use Rattle.search.proofs.Bools.{is-false}
 use Rattle.bitset.specs.Bits.{bitSet}
 use Rattle.bitset.proofs.BitSets.{bitSet-ext}
 use Rattle.layout.specs.declared.Shape.{Shape}
 use Rattle.layout.specs.declared.Refusal.{Refusal}
-use Rattle.layout.specs.declared.Refusal.the-variants.{Foreign}
+use Rattle.layout.specs.declared.Refusal.the-variants.{Foreign, BadMap}
 use Rattle.layout.specs.declared.Formatted.the-variants.{Done}
 use Rattle.layout.specs.Layout.{X, firstEdition, lastEdition, unitsFor, isUnit, wordAt, trailerBytes, knownAs, shapeOf, fresh}
 use Rattle.layout.specs.Shaped.{wordCount}
-use Rattle.layout.specs.Format.{formatAnswer, formatImage, format2Answer, format2Image}
-use Rattle.layout.proofs.Limits.{limits}
-use Rattle.layout.proofs.Formatting.{formatted, formatted2}
+use Rattle.layout.specs.Format.{formatAnswer, formatImage}
+use Rattle.layout.proofs.Limits.{limits, unit-past}
+use Rattle.layout.proofs.Formatting.{formatted}
 use Rattle.image.specs.declared.Verdict.{Verdict}
 use Rattle.image.specs.declared.Verdict.the-variants.{Refused, Passed}
-use Rattle.image.specs.Soundness.{unitsOf, Named, NamesUnit, Sound}
-use Rattle.image.specs.Verdicts.{verdict, firstVerdict}
-use Rattle.image.specs.Rows.{Row}
+use Rattle.image.specs.Soundness.{unitsOf, namedWords, Named, NamesUnit, Sound}
+use Rattle.image.specs.Verdicts.{verdict, firstVerdict, goodMap}
+use Rattle.image.specs.Rows.{Row, PastRow4}
 use Rattle.image.specs.Stored.{storedSize}
 use Rattle.image.specs.Free.{freeUnit, freeMap, freeUnits, freeMaps, heldUnits}
 use Rattle.image.specs.Loading.{unitSetWords, mapSetWords, answer, loaded}
 use Rattle.image.proofs.Verdicts.{read-first, read-other}
+use Rattle.image.proofs.Chunks.{reserved-bad}
 use Rattle.image.proofs.SoundLaws.{passed-tested, tested-passed}
 use Rattle.image.proofs.Wording.{tested-sound, sound-tested, sound-shape, sound-first, sound-second, held-named, named-held}
 use Rattle.image.proofs.Refusing.{refused-row, row-refused}
-use Rattle.image.proofs.Room.{free-or-held, held-below, distinct-held, free-and-held, some-map-free, units-free}
+use Rattle.image.proofs.Room.{freeUnit-past, free-or-held, held-unit, distinct-held, free-and-held, some-map-free, units-free}
 use Rattle.image.proofs.Storing.{size-of-units}
 use Rattle.image.proofs.Fresh.{word-fresh, sound-fresh, freeUnit-fresh, freeMap-fresh}
 
@@ -85,12 +88,26 @@ sound-or-refused s b = by-verdict (verdict s) refl
 
 -- ---- "Held units are those in named maps; all others are free."
 
--- Of the units each is free or held and not both; what is held is a unit, and in a sound image held once, so that both together are N.
-pub units-part : (s : List ℕ) (u : ℕ) → u < shapeOf s .n → freeUnit s u ≡ not (member u (heldUnits s))
+-- Of the units that are not reserved each is free or held and not both; what is held is such a unit, and in a sound image held once, so that both
+-- together are N-R.
+pub units-part : (s : List ℕ) (u : ℕ) → isUnit (shapeOf s) u ≡ true → freeUnit s u ≡ not (member u (heldUnits s))
 units-part = free-or-held
 
-pub held-are-units : (s : List ℕ) (u : ℕ) → member u (heldUnits s) ≡ true → u < shapeOf s .n
-held-are-units = held-below
+pub held-are-units : (s : List ℕ) (u : ℕ) → member u (heldUnits s) ≡ true → isUnit (shapeOf s) u ≡ true
+held-are-units = held-unit
+
+-- "Units below R are never free and never held"
+pub reserved-never-free : (s : List ℕ) (u : ℕ) → u < shapeOf s .r → freeUnit s u ≡ false
+reserved-never-free s u h = is-false (freeUnit s u) (λ e. let k = freeUnit-past s u e in omega arith)
+
+pub reserved-never-held : (s : List ℕ) (u : ℕ) → u < shapeOf s .r → member u (heldUnits s) ≡ false
+reserved-never-held s u h = is-false (member u (heldUnits s)) (λ e. let k = unit-past (shapeOf s) u (held-unit s u e) in omega arith)
+
+-- "a named map with one gives 5": in any of the words that may name units, at the lowest chunk with a bad map
+pub reserved-is-refused : (s : List ℕ) (i a : ℕ) → PastRow4 s → i < shapeOf s .c → ((j : ℕ) → j < i → goodMap s j ≡ true) → Named s i → a < shapeOf s .p
+    → getD (namedWords (shapeOf s) s i) a 0 < shapeOf s .r → verdict s ≡ Refused (BadMap i)
+reserved-is-refused s i a p b before n l low =
+    row-refused s (BadMap i) (p, (b, ap not (reserved-bad s i a (p .0 .2) n l low), (λ j h. ap not (before j h))))
 
 -- What is held is just what 01 says, "those in named maps".
 pub held-is-named : (g : Shape) (s : List ℕ) → Sound g s → (u : ℕ) → member u (heldUnits s) ≡ true → (i : ℕ) × (a : ℕ) × NamesUnit g s i a u
@@ -107,8 +124,8 @@ pub stored-size-fits : (g : Shape) (s : List ℕ) → Sound g s → (i : ℕ) �
 stored-size-fits g s z i b n =
     size-of-units s (sound-tested g s z) i (subst (λ (h : Shape). i < h .c) (sym (sound-shape g s z)) b) n
 
-pub units-counted : (g : Shape) (s : List ℕ) → Sound g s → length (freeUnits s) + length (heldUnits s) ≡ g .n
-units-counted g s z = free-and-held s (sound-tested g s z) ∙ ap (λ (h : Shape). h .n) (sound-shape g s z)
+pub units-counted : (g : Shape) (s : List ℕ) → Sound g s → length (freeUnits s) + length (heldUnits s) ≡ g .n - g .r
+units-counted g s z = free-and-held s (sound-tested g s z) ∙ ap (λ (h : Shape). h .n - h .r) (sound-shape g s z)
 
 -- ---- room
 
@@ -116,11 +133,11 @@ units-counted g s z = free-and-held s (sound-tested g s z) ∙ ap (λ (h : Shape
 pub map-is-free : (g : Shape) (s : List ℕ) → Sound g s → 1 ≤ length (freeMaps s)
 map-is-free g s z = some-map-free s (sound-tested g s z .fitting)
 
--- "With N at least (C+1)·P it never does for one write": P units are free.
-pub room-for-a-write : (g : Shape) (s : List ℕ) → Sound g s → (g .c + 1) * g .p ≤ g .n → g .p ≤ length (freeUnits s)
+-- "Refusal 9 never occurs for one write when N-R is at least (C+1)·P": P units are free.
+pub room-for-a-write : (g : Shape) (s : List ℕ) → Sound g s → (g .c + 1) * g .p ≤ g .n - g .r → g .p ≤ length (freeUnits s)
 room-for-a-write g s z h =
     let e = sound-shape g s z in
-    rw (← (ap (λ (q : Shape). q .p) e)) (units-free s (rw (e) h))
+    rw (← (ap (λ (q : Shape). q .p) e)) (units-free s (rw e h))
 
 -- ---- "what is written loads back as what was meant": format
 
@@ -128,14 +145,9 @@ room-for-a-write g s z h =
 pub fresh-is-absent : (g : Shape) (i : ℕ) → i < wordCount g → wordAt (fresh g) i ≡ X
 fresh-is-absent = word-fresh
 
--- What format writes is sound, loads back as the four numbers, and has every unit and every map free.
+-- What format writes, in either edition, is sound, loads back as the numbers that it took, and has every unit but the reserved ones and every map free.
 pub format-is-sound : (g : Shape) (s : List ℕ) → formatAnswer g s ≡ Done → Sound g (formatImage g s)
 format-is-sound g s d = let f = formatted g s d in rw (f .1) (sound-fresh g (limits g (f .0)))
-
--- The same of edition 2, which takes R too: 0.
-pub format2-is-format : (g : Shape) (r : ℕ) (s : List ℕ) → format2Answer g r s ≡ Done
-    → (r ≡ 0) × (formatAnswer g s ≡ Done) × (format2Image g r s ≡ formatImage g s)
-format2-is-format = formatted2
 
 pub format-loads : (g : Shape) (s : List ℕ) → formatAnswer g s ≡ Done
     → loaded (formatImage g s)

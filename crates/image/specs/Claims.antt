@@ -31,7 +31,7 @@ pub record Tested (s : List ℕ) : Type 0 where
 abbrev pub heldIn : List ℕ → ℕ → List ℕ
 heldIn s k = leading (isUnit (shapeOf s)) (unitWordsOf s k)
 
--- unit u is held by no chunk below j
+-- u is a unit that a chunk may hold, and no chunk below j holds it
 unfoldable pub unheld : List ℕ → ℕ → ℕ → Bool
 unheld s j u = isUnit (shapeOf s) u && not (any (λ i. member u (unitsOf s i)) (below j))
 

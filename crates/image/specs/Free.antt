@@ -11,7 +11,7 @@ use Rattle.image.specs.Soundness.{unitsOf}
 unfoldable pub heldUnits : List ℕ → List ℕ
 heldUnits s = joined (unitsOf s) (below (shapeOf s .c))
 
--- "all others are free"
+-- "all others are free", but "Units below R are never free"
 unfoldable pub freeUnit : List ℕ → ℕ → Bool
 freeUnit s u = isUnit (shapeOf s) u && not (any (λ i. member u (unitsOf s i)) (below (shapeOf s .c)))
 

@@ -17,7 +17,7 @@ unitSetWords = (maxUnits + 63) / 64
 abbrev pub mapSetWords : ℕ
 mapSetWords = (maxMaps + 63) / 64
 
--- "Load answers P, C, M, N and both"; of a refused image "what it returns besides number and place is 0"
+-- "Load answers P, C, M, N and both", and R; of a refused image "what it returns besides number and place is 0"
 abbrev pub answer : Verdict → List ℕ → Loaded
 answer Passed s = record {
   verdict = Passed;
@@ -27,7 +27,7 @@ answer Passed s = record {
 }
 answer (Refused r) s = record {
   verdict = Refused r;
-  shape = record { edition = 0; p = 0; c = 0; m = 0; n = 0 };
+  shape = record { edition = 0; p = 0; c = 0; m = 0; n = 0; r = 0 };
   units = replicate unitSetWords 0;
   maps = replicate mapSetWords 0;
 }

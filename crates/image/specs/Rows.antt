@@ -33,11 +33,12 @@ abbrev pub Row : List ℕ → Refusal → Type 0
 Row s Short = length s < trailerBytes firstEdition
 -- 2 "first four trailer bytes or version wrong"; of two editions "if neither has tag and version, 2"
 Row s Foreign = (trailerBytes firstEdition ≤ length s) × (known s ≡ false)
--- 3 "a limit broken, or a distance or length that disagrees"; in edition 2 also "two u32 that must be 0, else 3"
+-- 3 "a limit broken, or a distance or length that disagrees"; in edition 2 also a last u32 that "must be 0, else 3"
 Row s Geometry = (trailerBytes firstEdition ≤ length s) × (known s ≡ true) × (fitting s ≡ false)
 -- 4 "entry neither X nor below M", "lowest such chunk"
 Row s (BadLink i) = PastRow3 s × LowestOf (λ j. not (goodLink s j)) (shapeOf s .c) i
--- 5 "a named map of the wrong form", "lowest such chunk"; in edition 2 "k equal to the size rounded up in units; otherwise 5"
+-- 5 "a named map of the wrong form", "lowest such chunk"; in edition 2 "k equal to the size rounded up in units; otherwise 5", and of the reserved units
+-- "a named map with one gives 5"
 Row s (BadMap i) = PastRow4 s × LowestOf (λ j. not (goodMap s j)) (shapeOf s .c) i
 -- 6 "a map or unit claimed twice": "the second chunk is the lowest that claims a map or unit of a lower chunk, or one unit twice. The first chunk is the
 -- lowest one it clashes with, or itself if none is lower."

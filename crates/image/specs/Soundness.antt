@@ -42,8 +42,8 @@ pub record Form (f : ℕ → Bool) (k : ℕ) (ws : List ℕ) : Type 0 where
   pub units : (j : ℕ) → j < k → f (getD ws j 0) ≡ true
   pub rest : (j : ℕ) → k ≤ j → j < length ws → getD ws j 0 ≡ X
 
--- "each named map holds 1 to P units below N, then only X"; in edition 2 "A sound map has k equal to the size rounded up in units": ws are the words of a
--- map that holds k units
+-- "each named map holds 1 to P units below N, then only X", none of them reserved; in edition 2 "A sound map has k equal to the size rounded up in units":
+-- ws are the words of a map that holds k units
 pub record MapForm (g : Shape) (k : ℕ) (ws : List ℕ) : Type 0 where
   pub units : Form (isUnit g) k (unitWords g ws)
   pub size : 1 ≤ head g → unitsFor (getD ws 0 0) ≡ k
@@ -65,7 +65,7 @@ pub record Sound (g : Shape) (s : List ℕ) : Type 0 where
   -- "each logical entry is X or below M, and no two chunks name the same map"
   pub entries : (i : ℕ) → i < g .c → Named s i → linkOf s i < g .m
   pub maps : (i j : ℕ) → i < g .c → j < g .c → Named s i → linkOf s i ≡ linkOf s j → i ≡ j
-  -- "each named map holds 1 to P units below N, then only X"; in edition 2 "k equal to the size rounded up in units"
+  -- "each named map holds 1 to P units below N, then only X"; in edition 2 "k equal to the size rounded up in units", and "Units below R are [..] never held"
   pub forms : (i : ℕ) → i < g .c → Named s i → (k : ℕ) × MapForm g k (wordsOf g s (linkOf s i))
   -- "no unit is named twice in named maps"
   pub units : (u i j a b : ℕ) → NamesUnit g s i a u → NamesUnit g s j b u → (i ≡ j) × (a ≡ b)

@@ -24,7 +24,7 @@ goodLink s i = not (mapped s i) || ltb (linkOf s i) (shapeOf s .m)
 unfoldable pub badLink : List ℕ → ℕ
 badLink s = lowest (λ i. not (goodLink s i)) (shapeOf s .c)
 
--- ---- row 5: "a named map of the wrong form", "lowest such chunk"
+-- ---- row 5: "a named map of the wrong form", "lowest such chunk"; of the reserved units "a named map with one gives 5": such a word is no unit here
 
 -- "1 to P units below N, then only X": some word passes the test, and only X from the first that fails it
 unfoldable pub wellFormed : (ℕ → Bool) → List ℕ → Bool

@@ -4,6 +4,7 @@ use crate::maps::link;
 use crate::maps::unit_word;
 use bitset::contains;
 use bitset::fill;
+use bitset::fill_between;
 use bitset::remove;
 use layout::ABSENT;
 use layout::Shape;
@@ -57,8 +58,8 @@ fn claim(image: &[u8], g: Shape, j: usize, units: &mut [u64], maps: &mut [u64]) 
     false
 }
 
-// Takes the maps and units of the chunks out of the full sets, chunk after chunk: the lowest chunk that claims what a lower one has claimed, or one unit
-// twice; or C, and then the sets hold what is free.
+// Takes the maps and units of the chunks out of the sets of all maps and of all units but the reserved ones, chunk after chunk: the lowest chunk that claims
+// what a lower one has claimed, or one unit twice; or C, and then the sets hold what is free.
 pub(crate) fn first_double_claim(
     image: &[u8],
     g: Shape,
@@ -73,7 +74,8 @@ pub(crate) fn first_double_claim(
     let c = g.c as usize;
     let n = g.n as usize;
     let m = g.m as usize;
-    fill(units, n);
+    let r = g.r as usize;
+    fill_between(units, r, n);
     fill(maps, m);
     let mut j: usize = 0;
     while j < c {

@@ -31,6 +31,7 @@ fn refused(r: Refusal) -> Loaded
             c: 0,
             m: 0,
             n: 0,
+            r: 0,
         },
         units: [0u64; UNIT_SET_WORDS],
         maps: [0u64; MAP_SET_WORDS],

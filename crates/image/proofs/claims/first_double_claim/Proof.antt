@@ -1,28 +1,30 @@
 -- `image::claims::first_double_claim` meets its contract.
-use lib.ListN.{length}
-use Rattle.image.proofs.Claiming.{unheld-start, unnamed-start, scanned-all, scanned-part}
-use Rattle.bitset.proofs.BitSets.{bitSet-ext, length-bitSet}
-use Rattle.search.proofs.Ranges.{lowest-start, lowest-more, lowest-found, lowest-end}
-use Rattle.image.specs.Claims.{unheld, unnamed}
-use Rattle.image.specs.Loading.{unitSetWords, mapSetWords}
-use Rattle.bitset.specs.Bits.{bitSet}
-use Rattle.image.specs.Verdicts.{contested, doubleClaim}
-use Rattle.search.specs.Search.{lowestFrom}
-use Rattle.layout.specs.declared.Shape.{Shape}
-use borrow.Author.Tests.{not-true, not-false}
-use borrow.Author.Needs.{needs}
-use native.Mathlib.Omega.{arith}
-use mathlib.Core.Bool.{true, false}
-use mathlib.Core.Path.{_≡_, _∙_, ap, sym}
 use Prim.Native.Nat.{_-_, _≤_}
+use mathlib.Core.Path.{_≡_, _∙_, ap, sym}
+use mathlib.Core.Bool.{true, false}
+use native.Mathlib.Omega.{arith}
+use borrow.Author.Needs.{needs}
+use borrow.Author.Tests.{not-true, not-false}
+use Rattle.layout.specs.declared.Shape.{Shape}
+use Rattle.search.specs.Search.{lowestFrom}
+use Rattle.image.specs.Verdicts.{contested, doubleClaim}
+use Rattle.bitset.specs.Bits.{bitSet}
+use Rattle.image.specs.Loading.{unitSetWords, mapSetWords}
+use Rattle.image.specs.Claims.{unheld, unnamed}
+use Rattle.search.proofs.Ranges.{lowest-start, lowest-more, lowest-found, lowest-end}
+use Rattle.bitset.proofs.BitSets.{bitSet-ext, length-bitSet}
+use Rattle.image.proofs.Claiming.{unheld-start, unnamed-start, scanned-all, scanned-part}
+use lib.ListN.{length}
 use Rattle.image.proofs.claims.first_double_claim.Statement.{statement}
 use Rattle.image.proofs.claims.first_double_claim.Tie as tie
 
 abbrev Inv-loop : tie.InvT-loop
-Inv-loop image g units₀ maps₀ c n m j₀ units maps j = (j ≤ c) × (units ≡ bitSet (unheld image j) unitSetWords) × (maps ≡ bitSet (unnamed image j) mapSetWords) × (doubleClaim image ≡ lowestFrom (contested image) j (c - j))
+Inv-loop image g units₀ maps₀ c n m r j₀ units maps j =
+    (j ≤ c) × (units ≡ bitSet (unheld image j) unitSetWords) × (maps ≡ bitSet (unnamed image j) mapSetWords)
+    × (doubleClaim image ≡ lowestFrom (contested image) j (c - j))
 
 abbrev μ-loop : tie.MeasureT-loop
-μ-loop image g units₀ maps₀ c n m j₀ units maps j = c - j
+μ-loop image g units₀ maps₀ c n m r j₀ units maps j = c - j
 
 cast-c : tie.Need-cast-c Inv-loop μ-loop
 cast-c c = search needs
@@ -33,26 +35,33 @@ cast-n c = search needs
 cast-m : tie.Need-cast-m Inv-loop μ-loop
 cast-m c = search needs
 
+cast-r : tie.Need-cast-r Inv-loop μ-loop
+cast-r c = search needs
+
+fill-between-requires : tie.Need-fill-between-requires Inv-loop μ-loop
+fill-between-requires c κs = omega (arith, c .before .before .before .before .before .before .before .before .pre .0 .limits .r-high)
+
 fill-requires : tie.Need-fill-requires Inv-loop μ-loop
 fill-requires c κs = search needs
-
-fill-requires-2 : tie.Need-fill-requires-2 Inv-loop μ-loop
-fill-requires-2 c κs = search needs
 
 loop-holds : tie.Need-loop-holds Inv-loop μ-loop
 unfolding doubleClaim
 loop-holds c =
-    let a = c .before .before .before .before .before .before .before .before .before .before .before .before .before .before in (
+    let filled = c .before .before .before .before .before .before in
+    let a = filled .before .before .before .before .before .before .before .before .before in
+    let s = a .args .image .now in
+    let same = a .pre .0 .same in (
       search needs,
-      c .before .before .before .before .before .before .fill .ensures ∙ rw (a .pre .1 .1 .0) (bitSet-ext _ _ unitSetWords (λ y h. unheld-start (a .args .image .now) (a .args .g) (a .pre .0 .same) y)),
-      c .before .before .fill2 .ensures ∙ rw (a .pre .1 .1 .1) (bitSet-ext _ _ mapSetWords (λ y h. unnamed-start (a .args .image .now) (a .args .g) (a .pre .0 .same) y)),
-      lowest-start _ _ _ (ap (λ (g : Shape). g .c) (a .pre .0 .same)),
+      filled .fill-between .ensures ∙ rw (a .pre .1 .1 .0) (bitSet-ext _ _ unitSetWords (λ y h. unheld-start s (a .args .g) same y)),
+      c .before .before .fill .ensures ∙ rw (a .pre .1 .1 .1) (bitSet-ext _ _ mapSetWords (λ y h. unnamed-start s (a .args .g) same y)),
+      lowest-start _ _ _ (ap (λ (g : Shape). g .c) same),
     )
 
 claim-requires : tie.Need-claim-requires Inv-loop μ-loop
 claim-requires c κs =
-    let a = c .before .before .before .before .before .before .before .before .before .before .before .before .before .before .before .before .before .before in
-    let l = c .before .before .before .loop in
+    let turn = c .before .before .before in
+    let l = turn .loop in
+    let a = turn .before .before .before .before .before .before .before .before .before .before .before .before .before .before .before .before in
     (a .pre .0, ((omega arith, a .pre .1 .0 (l .j) (omega arith)), (l .inv .1, l .inv .2)))
 
 add-j : tie.Need-add-j Inv-loop μ-loop
@@ -63,8 +72,9 @@ loop-less c = search needs
 
 loop-again : tie.Need-loop-again Inv-loop μ-loop
 loop-again c =
-    let a = c .before .before .before .before .before .before .before .before .before .before .before .before .before .before .before .before .before .before .before .before .before .before .before .before in
-    let l = c .before .before .before .before .before .before .before .before .before .loop in
+    let turn = c .before .before .before .before .before .before .before .before .before in
+    let l = turn .loop in
+    let a = turn .before .before .before .before .before .before .before .before .before .before .before .before .before .before .before .before in
     let h = c .before .before .before .before .before .claim .ensures in
     let apart : contested (a .args .image .now) (l .j) ≡ false = not-true _ (sym (h .right) ∙ c .if1 .taken) in (
       omega arith,
@@ -74,15 +84,20 @@ loop-again c =
     )
 
 same-length : tie.Need-same-length Inv-loop μ-loop
-same-length c = omega (arith, ap length (c .before .before .before .before .before .before .before .before .before .loop .inv .1) ∙ length-bitSet _ unitSetWords)
+same-length c =
+    let turn = c .before .before .before .before .before .before .before .before .before in
+    omega (arith, turn .before .before .before .before .before .before .before .before .before .before .before .before .before .before .before .before .pre .1 .1 .0, ap length (turn .loop .inv .1) ∙ length-bitSet _ unitSetWords)
 
 same-length-2 : tie.Need-same-length-2 Inv-loop μ-loop
-same-length-2 c = omega (arith, ap length (c .before .before .before .before .before .before .before .before .before .loop .inv .2) ∙ length-bitSet _ mapSetWords)
+same-length-2 c =
+    let turn = c .before .before .before .before .before .before .before .before .before in
+    omega (arith, turn .before .before .before .before .before .before .before .before .before .before .before .before .before .before .before .before .pre .1 .1 .1, ap length (turn .loop .inv .2) ∙ length-bitSet _ mapSetWords)
 
 returns : tie.Need-returns Inv-loop μ-loop
 returns c =
-    let a = c .before .before .before .before .before .before .before .before .before .before .before .before .before .before .before .before .before .before .before .before .before .before .before .before in
-    let l = c .before .before .before .before .before .before .before .before .before .loop in
+    let turn = c .before .before .before .before .before .before .before .before .before in
+    let l = turn .loop in
+    let a = turn .before .before .before .before .before .before .before .before .before .before .before .before .before .before .before .before in
     let h = c .before .before .before .before .before .claim .ensures in
     let twice : contested (a .args .image .now) (l .j) ≡ true = not-false _ (sym (h .right) ∙ c .if1 .left) in
     scanned-part (a .args .image .now) (a .args .g) (a .pre .0 .same) (l .j) _ _ (omega arith)
@@ -96,8 +111,9 @@ same-length-4 c = omega (arith, ap length (c .before .loop .inv .2) ∙ length-b
 
 returns-2 : tie.Need-returns-2 Inv-loop μ-loop
 returns-2 c =
-    let a = c .before .before .before .before .before .before .before .before .before .before .before .before .before .before .before .before in
-    let l = c .before .loop in
+    let turn = c .before in
+    let l = turn .loop in
+    let a = turn .before .before .before .before .before .before .before .before .before .before .before .before .before .before .before .before in
     scanned-all (a .args .image .now) (a .args .g) (a .pre .0 .same) (l .j) _ _ (omega arith)
     (sym (l .inv .3 ∙ lowest-end _ (a .args .g .c) (l .j) (omega arith))) (l .inv .1) (l .inv .2)
 
@@ -110,8 +126,9 @@ first-double-claim-spec =
     cast-c
     cast-n
     cast-m
+    cast-r
+    fill-between-requires
     fill-requires
-    fill-requires-2
     loop-holds
     claim-requires
     add-j
