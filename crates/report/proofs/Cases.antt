@@ -10,7 +10,7 @@ use Rattle.words.specs.Words.{number, digits}
 use Rattle.search.specs.Search.{from, all, any, keep, member, distinct, disjoint, lowestFrom, joined}
 use Rattle.layout.specs.declared.Refusal.the-variants.{Short, BadAlarm}
 use Rattle.layout.specs.Trailer.{trailerOutcome}
-use Rattle.layout.specs.Layout.{isUnit, mapWords, spareBytes, taggedAt, knownAs, editionOf, spareZero, fresh, putWord, trailerOf, shapeBytes, sizeBytes, known, fitting, withinLimits, agreeing, shapeOf, wordsOf}
+use Rattle.layout.specs.Layout.{edition1, edition2, isUnit, mapWords, addedBytes, taggedAt, knownAs, editionOf, spareZero, fresh, putWord, trailerOf, shapeBytes, sizeBytes, known, fitting, withinLimits, maxReserved, reservedAt, agreeing, shapeOf, wordsOf}
 use Rattle.image.specs.declared.Verdict.{Verdict}
 use Rattle.image.specs.declared.Verdict.the-variants.{Passed, Refused as Unsound}
 use Rattle.image.specs.Soundness.{leading, unitsOf}
@@ -28,12 +28,17 @@ use Rattle.report.specs.Alarms.{alarmAt, alarmAnswer}
 -- one chunk that holds all of four units
 abbrev pub full : List ℕ
 unfolding fresh digits
-full = putWord (putWord (putWord (putWord (putWord (fresh (record { edition = 1; p = 4; c = 1; m = 2; n = 4 })) 0 0) 1 0) 2 1) 3 2) 4 3
+full = putWord (putWord (putWord (putWord (putWord (fresh (edition1 4 1 2 4)) 0 0) 1 0) 2 1) 3 2) 4 3
 
 -- one of two chunks on one of its five units
 abbrev pub single : List ℕ
 unfolding fresh digits
-single = putWord (putWord (fresh (record { edition = 1; p = 5; c = 2; m = 3; n = 10 })) 1 0) 2 0
+single = putWord (putWord (fresh (edition1 5 2 3 10)) 1 0) 2 0
+
+-- edition 2, with 12 of 20 units reserved, and one of four chunks stored raw on the next four
+abbrev pub reserved : List ℕ
+unfolding fresh digits
+reserved = putWord (putWord (putWord (putWord (putWord (putWord (fresh (edition2 4 4 5 20 12)) 0 0) 4 16384) 5 12) 6 13) 7 14) 8 15
 
 -- ---- floats
 
@@ -96,11 +101,17 @@ table =
     ∷ Reports single Passed 1 1 9 4 tenth fourFifths
     -- stored raw
     ∷ Reports full Passed 1 4 0 0 one (zero false)
+    -- reserved units are neither held nor free, and the held ratio is still of N: 4/20
+    ∷ Reports reserved Passed 1 4 4 0 fifth (zero false)
     -- no image
     ∷ Reports [] (Unsound Short) 0 0 0 0 (zero false) (zero false)
     -- "Free 16 of 20: fraction 0.75 silent, 0.875 sounds"
     ∷ Alarms third (Fraction threeQuarters) Silent
     ∷ Alarms third (Fraction sevenEighths) Sounds
+    -- free 4, and half of N is 10, of the units that are not reserved 4
+    ∷ Alarms reserved (Fraction half) Sounds
+    ∷ Alarms reserved (Count 4) Silent
+    ∷ Alarms reserved (Count 5) Sounds
     -- the product is rounded, here to 16, before it is compared
     ∷ Alarms third (Fraction fourFifths) Silent
     -- below, not at, the level
@@ -127,6 +138,6 @@ table =
     ∷ []
 
 pub cases-right : AllRight table
-unfolding verdict trailerOutcome chunkVerdict badLink badMap doubleClaim firstClaim contested clash wellFormed leading unitsOf freeUnit freeUnits heldUnits lowestFrom all any keep member distinct disjoint joined known fitting withinLimits agreeing fresh trailerOf shapeBytes sizeBytes isUnit mapWords sizeFits goodForm spareBytes taggedAt knownAs editionOf spareZero number digits from shapeOf wordsOf lt mul div ofInt isNan mappedCount ratio reportOf alarmAt
+unfolding verdict trailerOutcome chunkVerdict badLink badMap doubleClaim firstClaim contested clash wellFormed leading unitsOf freeUnit freeUnits heldUnits lowestFrom all any keep member distinct disjoint joined known fitting withinLimits maxReserved reservedAt agreeing fresh trailerOf shapeBytes sizeBytes isUnit mapWords sizeFits goodForm addedBytes taggedAt knownAs editionOf spareZero number digits from shapeOf wordsOf lt mul div ofInt isNan mappedCount ratio reportOf alarmAt
 cases-right =
-    (refl, (refl, (refl, (refl, (refl, (refl, (refl, (refl, (refl, (refl, (refl, (refl, (refl, (refl, (refl, (refl, (refl, (refl, (refl, (refl, (refl, (refl, (refl, (refl, tt))))))))))))))))))))))))
+    (refl, (refl, (refl, (refl, (refl, (refl, (refl, (refl, (refl, (refl, (refl, (refl, (refl, (refl, (refl, (refl, (refl, (refl, (refl, (refl, (refl, (refl, (refl, (refl, (refl, (refl, (refl, (refl, tt))))))))))))))))))))))))))))

@@ -60,24 +60,24 @@ module _ (s : List ℕ) (g : Shape) (h : Shaped s g) where
 
   module _ (v : verdict s ≡ Passed) (free : ℕ) (e : free ≡ freeCount s) where
     -- no difference wraps
-    pub free-high : free ≤ g .n
-    free-high = omega (arith, free-and-held s (passed-tested s v), ap (λ (g : Shape). g .n) (h .same))
+    pub free-high : free ≤ g .n - g .r
+    free-high = omega (arith, free-and-held s (passed-tested s v), ap (λ (g : Shape). g .n - g .r) (h .same))
 
-    held-is : g .n - free ≡ heldCount s
-    held-is = omega (arith, free-and-held s (passed-tested s v), ap (λ (g : Shape). g .n) (h .same))
+    held-is : g .n - g .r - free ≡ heldCount s
+    held-is = omega (arith, free-and-held s (passed-tested s v), ap (λ (g : Shape). g .n - g .r) (h .same))
 
     module _ (m : ℕ) (em : m ≡ mappedCount s) where
-      pub held-few : g .n - free ≤ m * g .p
+      pub held-few : g .n - g .r - free ≤ m * g .p
       held-few = rw (held-is, em, h .same) (held-most s)
 
       pub report-made :
-          (hr sr : Float) → hr ≡ ratio (g .n - free) (g .n)
-          → sr ≡ ratioIfMapped m (m * g .p - (g .n - free)) (m * g .p)
+          (hr sr : Float) → hr ≡ ratio (g .n - g .r - free) (g .n)
+          → sr ≡ ratioIfMapped m (m * g .p - (g .n - g .r - free)) (m * g .p)
           → _≡_ {A = Report} (record {
             mapped = m;
-            held = g .n - free;
+            held = g .n - g .r - free;
             free = free;
-            saved = m * g .p - (g .n - free);
+            saved = m * g .p - (g .n - g .r - free);
             «held_ratio» = hr;
             «saved_ratio» = sr;
           }) (reportOf s)

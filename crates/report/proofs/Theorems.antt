@@ -41,8 +41,8 @@ use Rattle.report.proofs.Rounded.{Share, count-exact, ratio-rounds, rat
 
 -- What the figures of a report say of one another.
 pub record Figures (g : Shape) (r : Report) : Type 0 where
-  -- held and free units are N in all
-  pub units : r .held + r .free ≡ g .n
+  -- held and free units are N-R in all
+  pub units : r .held + r .free ≡ g .n - g .r
   -- "mapped chunks times P, less held units" is never negative: held units are at most that
   pub chunks : r .saved + r .held ≡ r .mapped * g .p
   -- and, where something is mapped, never all of it: a mapped chunk holds a unit at least
@@ -56,7 +56,7 @@ pub record Figures (g : Shape) (r : Report) : Type 0 where
   pub held-share : Share (r .«held_ratio»)
   pub saved-share : Share (r .«saved_ratio»)
 
--- The report of n units and no mapped chunk.
+-- The report of n units that are not reserved and no mapped chunk.
 abbrev pub emptyReport : ℕ → Report
 emptyReport n = record { mapped = 0; held = 0; free = n; saved = 0; «held_ratio» = zero64; «saved_ratio» = zero64 }
 
@@ -89,8 +89,8 @@ module _ (g : Shape) (s : List ℕ) (z : Sound g s) where
       let few = rw (sound-shape g s z) at (mapped-most s) in
       product-high (g .p) (mappedCount s) (l .p-high) (omega (arith, l .c-high))
 
-  counted : freeCount s + heldCount s ≡ g .n
-  counted = free-and-held s (sound-tested g s z) ∙ ap (λ (h : Shape). h .n) (sound-shape g s z)
+  counted : freeCount s + heldCount s ≡ g .n - g .r
+  counted = free-and-held s (sound-tested g s z) ∙ ap (λ (h : Shape). h .n - h .r) (sound-shape g s z)
 
   -- The report of a sound image has such figures.
   pub report-figures : Figures g (reportAnswer s .report)
@@ -114,14 +114,14 @@ module _ (g : Shape) (s : List ℕ) (z : Sound g s) where
       })
 
   -- Where nothing is mapped, nothing is held and nothing saved.
-  pub unmapped-report : mappedCount s ≡ 0 → reportAnswer s ≡ passedReport (emptyReport (g .n))
+  pub unmapped-report : mappedCount s ≡ 0 → reportAnswer s ≡ passedReport (emptyReport (g .n - g .r))
   unfolding reportOf
   unmapped-report e =
       let u = counted in
       let n = units-high g (z .limits) in
       let none : mappedCount s * g .p ≡ 0 = rw (e) (zero-mul (g .p)) in
       let h : heldCount s ≡ 0 = omega (arith, most) in
-      let f : freeCount s ≡ g .n = omega arith in
+      let f : freeCount s ≡ g .n - g .r = omega arith in
       rw (passed, sound-shape g s z, e, zero-mul, h, f, ratio-none (g .n) (omega arith) (omega arith))
 
   -- The alarm at a good fraction x above 0, which is num x / den x: it sounds when free units are below the f64 nearest to x · N. (The count of
@@ -152,7 +152,7 @@ none-mapped g l =
     not-mapped (fresh g) i (absent-fresh g l i (let b = member-below i (shapeOf (fresh g) .c) m in omega arith))))
 
 -- A fresh volume saves nothing.
-pub fresh-report : (g : Shape) (s : List ℕ) → formatAnswer g s ≡ Done → reportAnswer (formatImage g s) ≡ passedReport (emptyReport (g .n))
+pub fresh-report : (g : Shape) (s : List ℕ) → formatAnswer g s ≡ Done → reportAnswer (formatImage g s) ≡ passedReport (emptyReport (g .n - g .r))
 fresh-report g s d =
     let f = formatted g s d in
     let l = limits g (f .0) in

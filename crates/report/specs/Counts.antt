@@ -17,7 +17,7 @@ mappedCount s = length (keep (mapped s) (below (shapeOf s .c)))
 abbrev pub heldCount : List ℕ → ℕ
 heldCount s = length (heldUnits s)
 
--- "all others are free"
+-- "all others are free", but the reserved units
 abbrev pub freeCount : List ℕ → ℕ
 freeCount s = length (freeUnits s)
 

@@ -41,7 +41,7 @@ fn report_in(image: &[u8], g: Shape, free: u32) -> Report
     let n = g.n;
     let mapped = mapped_count(image, g);
     let raw = mapped * g.p;
-    let held = n - free;
+    let held = n - g.r - free;
     let saved = raw - held;
     let held_ratio = ratio(held, n);
     let saved_ratio = saved_ratio(mapped, saved, raw);
