@@ -8,7 +8,7 @@ use Rattle.words.specs.Words.{number, digits}
 use Rattle.search.specs.Search.{from, all, any, member, distinct, disjoint, lowestFrom}
 use Rattle.layout.specs.declared.Refusal.the-variants.{Range, Small}
 use Rattle.layout.specs.Trailer.{trailerOutcome}
-use Rattle.layout.specs.Layout.{isUnit, mapWords, spareBytes, taggedAt, knownAs, editionOf, spareZero, fresh, trailerOf, shapeBytes, sizeBytes, known, fitting, withinLimits, shapeOf, agreeing, wordsOf}
+use Rattle.layout.specs.Layout.{isUnit, mapWords, addedBytes, taggedAt, knownAs, editionOf, spareZero, fresh, trailerOf, shapeBytes, sizeBytes, known, fitting, withinLimits, maxReserved, reservedAt, shapeOf, agreeing, wordsOf}
 use Rattle.image.specs.Soundness.{leading, unitsOf}
 use Rattle.image.specs.Verdicts.{verdict, chunkVerdict, badLink, badMap, doubleClaim, firstClaim, contested, clash, wellFormed, sizeFits, goodForm}
 use Rattle.image.proofs.Cases.{third}
@@ -88,5 +88,5 @@ table =
     ∷ []
 
 pub cases-right : map (λ (k : Case). ask third (k .question)) table ≡ map (λ (k : Case). k .reply) table
-unfolding verdict trailerOutcome chunkVerdict badLink badMap doubleClaim firstClaim contested clash wellFormed leading unitsOf lowestFrom all any member distinct disjoint known fitting withinLimits agreeing fresh trailerOf shapeBytes sizeBytes isUnit mapWords sizeFits goodForm spareBytes taggedAt knownAs editionOf spareZero number digits from shapeOf wordsOf goodRange pieceOf pieces encode encodeAll splitIn readsFirst heldWords
+unfolding verdict trailerOutcome chunkVerdict badLink badMap doubleClaim firstClaim contested clash wellFormed leading unitsOf lowestFrom all any member distinct disjoint known fitting withinLimits maxReserved reservedAt agreeing fresh trailerOf shapeBytes sizeBytes isUnit mapWords sizeFits goodForm addedBytes taggedAt knownAs editionOf spareZero number digits from shapeOf wordsOf goodRange pieceOf pieces encode encodeAll splitIn readsFirst heldWords
 cases-right = refl

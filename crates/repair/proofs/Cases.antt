@@ -1,4 +1,4 @@
--- Worked cases on document 01's 224-byte volume, computed: one statement.
+-- Worked cases on document 01's 224-byte volume, and on that of edition 2 with reserved units, computed: one statement.
 use Prim.Native.Nat.{ℕ}
 use mathlib.Core.Path.{_≡_, refl}
 use mathlib.Core.List.{List, [], _∷_}
@@ -6,7 +6,7 @@ use Rattle.words.specs.Words.{number, digits}
 use Rattle.search.specs.Search.{from, all, any, keep, member, distinct, disjoint, joined}
 use Rattle.layout.specs.declared.Refusal.the-variants.{Short, Small}
 use Rattle.layout.specs.Trailer.{trailerOutcome}
-use Rattle.layout.specs.Layout.{X, isUnit, mapWords, spareBytes, taggedAt, knownAs, editionOf, spareZero, fresh, putWord, trailerOf, shapeBytes, sizeBytes, known, fitting, withinLimits, shapeOf, agreeing, wordsOf}
+use Rattle.layout.specs.Layout.{X, edition2, isUnit, mapWords, addedBytes, taggedAt, knownAs, editionOf, spareZero, fresh, putWord, trailerOf, shapeBytes, sizeBytes, known, fitting, withinLimits, maxReserved, reservedAt, shapeOf, agreeing, wordsOf}
 use Rattle.image.specs.Soundness.{leading, unitsOf}
 use Rattle.image.specs.Verdicts.{clash, wellFormed, sizeFits, goodForm}
 use Rattle.image.proofs.Cases.{small, third}
@@ -35,6 +35,11 @@ unfolding fresh digits
 chain =
     putWord (putWord (putWord (putWord (putWord (putWord (putWord (putWord (putWord (fresh small) 0 0) 1 1) 2 2) 4 0) 5 1) 8 1) 9 2) 12 2) 13 3
 
+-- Edition 2 with three units reserved: chunk 0 has map 0 with units 3 and 2, of which the second is reserved; chunk 1 has map 1 with unit 3.
+abbrev onReserved : List ℕ
+unfolding fresh digits
+onReserved = putWord (putWord (putWord (putWord (putWord (putWord (putWord (fresh (edition2 4 4 5 20 3)) 0 0) 4 8192) 5 3) 6 2) 1 1) 9 4096) 10 3
+
 worked :
     (repairAnswer [] 4 ≡ Refused Short)
     × (repairAnswer third 0 ≡ Unlinked 0)
@@ -49,5 +54,7 @@ worked :
     × (repaired badNeighbour ≡ putWord badNeighbour 1 X)
     × (unlinked several ≡ 1 ∷ 2 ∷ 3 ∷ [])
     × (unlinked chain ≡ 0 ∷ 1 ∷ 2 ∷ [])
-unfolding unlinked unlinks bad sharesWith shares namesTwice unlink repaired ifRoom repairAnswer listBytes joined trailerOutcome clash wellFormed leading unitsOf all any keep member distinct disjoint known fitting withinLimits agreeing fresh trailerOf shapeBytes sizeBytes isUnit mapWords sizeFits goodForm spareBytes taggedAt knownAs editionOf spareZero number digits from shapeOf wordsOf
-worked = (refl, refl, refl, refl, refl, refl, refl, refl, refl, refl, refl, refl, refl)
+    × (unlinked onReserved ≡ 0 ∷ [])
+    × (repaired onReserved ≡ putWord onReserved 0 X)
+unfolding unlinked unlinks bad sharesWith shares namesTwice unlink repaired ifRoom repairAnswer listBytes joined trailerOutcome clash wellFormed leading unitsOf all any keep member distinct disjoint known fitting withinLimits maxReserved reservedAt agreeing fresh trailerOf shapeBytes sizeBytes isUnit mapWords sizeFits goodForm addedBytes taggedAt knownAs editionOf spareZero number digits from shapeOf wordsOf
+worked = (refl, refl, refl, refl, refl, refl, refl, refl, refl, refl, refl, refl, refl, refl, refl)

@@ -15,7 +15,7 @@ use Rattle.image.specs.Soundness.{Named, unitsOf, MapForm, NamesUnit, Sound}
 -- ---- why a chunk is unlinked
 
 -- chunk i is one of those "with good links and maps": it names no map; or its entry is below M, and the map "holds 1 to P units below N,
--- then only X", in edition 2 with a size of just so many
+-- then only X", none of them reserved, in edition 2 with a size of just so many
 abbrev pub Good : Shape → List ℕ → ℕ → Type 0
 Good g s i = Named s i → (linkOf s i < g .m) × ((k : ℕ) × MapForm g k (wordsOf g s (linkOf s i)))
 
