@@ -9,7 +9,7 @@ use Rattle.layout.specs.declared.Refusal.{Refusal}
 use Rattle.layout.specs.declared.Refusal.the-variants.{Small}
 use Rattle.layout.specs.Layout.{imageBytes, fresh}
 use Rattle.layout.specs.Shaped.{Limits}
-use Rattle.layout.specs.Format.{format2Image}
+use Rattle.layout.specs.Format.{formatImage}
 use Rattle.layout.proofs.Limits.{limits-hold}
 use Rattle.layout.proofs.Formatting.{good, done}
 use Rattle.image.specs.declared.Verdict.the-variants.{Refused as VerdictRefused, Passed}
@@ -36,7 +36,7 @@ left-out s out a b e = ap (λ (r : Converted). unlessRefused r (converted s) out
 
 -- a buffer of that length is formatted
 pub formatted : (g h : Shape) (out t : List ℕ) → Limits g → h ≡ secondOf g → length out ≡ imageBytes (secondOf g)
-    → t ≡ format2Image (secondOf g) 0 out → t ≡ fresh h
+    → t ≡ formatImage (secondOf g) out → t ≡ fresh h
 formatted g h out t l q n e =
     let k = secondOf g in
     e ∙ sym (done k out (good k out (limits-hold k (second-limits g l)) n) .1) ∙ ap fresh (sym q)

@@ -1,7 +1,7 @@
 -- The converted image is sound; every chunk has the entry and the units that it had, with the size of just so many; every other map is X throughout.
 use Prim.Native.Nat.{ℕ, zero, suc, _+_, _-_, _*_, _≤_, _<_}
 use native.Mathlib.Omega.{arith}
-use mathlib.Core.Path.{_≡_, refl, sym, ap, subst, _∙_}
+use mathlib.Core.Path.{_≡_, sym, ap, subst, _∙_}
 use mathlib.Core.Logic.{_⊎_, inl, inr, ⊎-elim, _≢_}
 use mathlib.Core.Bool.{true, false}
 use mathlib.Core.List.{List, map}
@@ -15,7 +15,7 @@ use Rattle.search.proofs.Mapping.{map-below-ext, map-places, length-map-from, g
 use Rattle.layout.specs.declared.Shape.{Shape}
 use Rattle.layout.specs.Layout.{X, unitBytes, isUnit, mapWords, wordAt, putWord, mapWordPlace, trailerStart, trailerOf, linkOf, shapeOf, fresh}
 use Rattle.layout.specs.Shaped.{Limits, On, wordCount}
-use Rattle.layout.proofs.Limits.{fitting-limits, map-words, map-within, units-high, unit-below}
+use Rattle.layout.proofs.Limits.{fitting-limits, map-words, map-within, units-high, unit-below, between-unit}
 use Rattle.layout.proofs.Heads.{in-head, past-head}
 use Rattle.layout.proofs.Place.{on-put, wordAt-same, wordAt-other, place-in, place-past, put-trailer}
 use Rattle.image.specs.Soundness.{mapped, unitsOf, Named, Sound}
@@ -186,9 +186,8 @@ module _ (s : List ℕ) (z : Tested s) where
           above : k ≤ k′ → k < k′
           above q = omega (arith, n)
 
-      same-unit : (u : ℕ) → isUnit g u ≡ isUnit (shapeOf s) u
-      unfolding isUnit
-      same-unit u = refl
+      still-unit : (u : ℕ) → isUnit (shapeOf s) u ≡ true → isUnit g u ≡ true
+      still-unit u e = between-unit g u (omega arith) (unit-below (shapeOf s) u e)
 
       new-map : NewMap g t₂ j k (length us * unitBytes) (length us) unit
       new-map = record {
@@ -199,7 +198,7 @@ module _ (s : List ℕ) (z : Tested s) where
         some = units-some s z j b m;
         fits = few;
         sized = omega arith;
-        here = λ a l. ap (isUnit g) (unit-here us a l) ∙ same-unit (getD us a 0) ∙ is-unit a l;
+        here = λ a l. ap (isUnit g) (unit-here us a l) ∙ still-unit (getD us a 0) (is-unit a l);
         past = λ a l. List·getD-eq-default us X l;
       }
 

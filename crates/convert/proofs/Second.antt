@@ -31,6 +31,8 @@ second-limits g l = record {
   m-high = l .m-high;
   n-low = l .n-low;
   n-high = l .n-high;
+  r-high = omega (arith, l .n-low);
+  r-first = λ e. absurd (omega arith);
 }
 
 -- where the code has it as h

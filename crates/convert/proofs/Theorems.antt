@@ -10,13 +10,13 @@ use lib.Dec.{eqb, ltb}
 use borrow.Author.Tests.{ltb-true, lt-ltb, eqb-true, eqb-false}
 use Rattle.words.specs.Words.{Bytes}
 use Rattle.search.specs.Search.{member}
-use Rattle.search.proofs.Bools.{either, same, cond-true, or-cases, or-left}
+use Rattle.search.proofs.Bools.{either, is-false, same, cond-true, or-cases, or-left}
 use Rattle.layout.specs.declared.Shape.{Shape}
 use Rattle.layout.specs.declared.Refusal.{Refusal}
 use Rattle.layout.specs.declared.Refusal.the-variants.{Short, Foreign, Small}
 use Rattle.layout.specs.Layout.{unitBytes, firstEdition, lastEdition, mapWords, wordAt, mapWordPlace, trailerBytes, imageBytes, knownAs, editionOf, shapeOf, linkOf}
 use Rattle.layout.specs.Shaped.{mapOf}
-use Rattle.layout.proofs.Limits.{shape-edition, map-words}
+use Rattle.layout.proofs.Limits.{shape-edition, fitting-limits, map-words, unit-past, between-unit}
 use Rattle.image.specs.declared.Verdict.{Verdict}
 use Rattle.image.specs.declared.Verdict.the-variants.{Refused as VerdictRefused, Passed}
 use Rattle.image.specs.Soundness.{Named, unitsOf, Sound}
@@ -29,8 +29,8 @@ use Rattle.image.proofs.Verdicts.{first-verdict, first-foreign, read-first, rea
 use Rattle.image.proofs.SoundLaws.{passed-tested, tested-passed}
 use Rattle.image.proofs.Wording.{tested-sound, sound-tested, sound-shape, sound-first, sound-second}
 use Rattle.image.proofs.Refusing.{row-refused}
-use Rattle.image.proofs.Chunks.{is-mapped}
-use Rattle.image.proofs.Room.{freeUnit-below, freeUnit-unheld, freeUnit-intro, freeMap-below, freeMap-unnamed, freeMap-intro}
+use Rattle.image.proofs.Chunks.{is-mapped, units-are-units}
+use Rattle.image.proofs.Room.{freeUnit-past, freeUnit-below, freeUnit-unheld, freeUnit-intro, freeMap-below, freeMap-unnamed, freeMap-intro}
 use Rattle.convert.specs.declared.Converted.{Converted}
 use Rattle.convert.specs.declared.Converted.the-variants.{Bytes as BytesLeft, Refused}
 use Rattle.convert.specs.Convert.{secondOf, newBytes, converted, ifExact, convertAnswer, convertOut}
@@ -132,7 +132,11 @@ module _ (s : List ℕ) (v : firstVerdict s ≡ Passed) where
       (⊎-elim (λ h. let l = ltb-true (length s) (trailerBytes firstEdition) h in absurd (omega (arith, first-known .1 .long))) (λ h. h)
       (or-cases (ltb (length s) (trailerBytes firstEdition)) (knownAs firstEdition s) (first-known .0)))
 
-module _ (s : List ℕ) (z : Tested s) where
+-- edition 1 reserves no unit
+none-reserved : (s : List ℕ) → firstVerdict s ≡ Passed → shapeOf s .r ≡ 0
+none-reserved s v = fitting-limits s (first-known s v .1 .fitting) .r-first (first-edition s v)
+
+module _ (s : List ℕ) (z : Tested s) (none : shapeOf s .r ≡ 0) where
   abbrev g : Shape
   g = secondOf (shapeOf s)
 
@@ -159,12 +163,15 @@ module _ (s : List ℕ) (z : Tested s) where
       ∙ converted-sizes s z i b (is-mapped s i (λ x. n (e ∙ x)))
       ∙ ap (λ (us : List ℕ). length us * unitBytes) (sym (converted-units s z i b))
 
+  r-now : shapeOf t .r ≡ 0
+  r-now = ap (λ (h : Shape). h .r) shape-now
+
   free-unit : (u : ℕ) → freeUnit t u ≡ freeUnit s u
   free-unit u =
       same (freeUnit t u) (freeUnit s u)
-      (λ e. freeUnit-intro s u (omega (arith, freeUnit-below t u e, n-now))
+      (λ e. freeUnit-intro s u (between-unit (shapeOf s) u (omega arith) (omega (arith, freeUnit-below t u e, n-now)))
       (λ i b. ap (member u) (sym (converted-units s z i b)) ∙ freeUnit-unheld t u e i (omega (arith, c-now))))
-      (λ e. freeUnit-intro t u (omega (arith, freeUnit-below s u e, n-now))
+      (λ e. freeUnit-intro t u (between-unit (shapeOf t) u (omega (arith, r-now)) (omega (arith, freeUnit-below s u e, n-now)))
       (λ i b. ap (member u) (converted-units s z i (omega (arith, c-now))) ∙ freeUnit-unheld s u e i (omega (arith, c-now))))
 
   free-map : (k : ℕ) → freeMap t k ≡ freeMap s k
@@ -189,9 +196,30 @@ module _ (s : List ℕ) (z : Tested s) where
     free-maps = fun-ext free-map;
   }
 
+-- Where the sentences hold, no unit was reserved: unit 0 would be free now and was not.
+all-units : (s t : List ℕ) → Tested s → Converts s t → shapeOf s .r ≡ 0
+all-units s t z h = ⊎-elim (λ q. eqb-true (shapeOf s .r) 0 q) (λ q. absurd (some (eqb-false (shapeOf s .r) 0 q))) (either (eqb (shapeOf s .r) 0))
+  where
+    shape-now : shapeOf t ≡ secondOf (shapeOf s)
+    shape-now = sound-shape (secondOf (shapeOf s)) t (h .sound)
+
+    some : shapeOf s .r ≢ 0 → ⊥
+    some r =
+        let low : 0 < shapeOf s .r = omega (arith, r) in
+        let none : shapeOf t .r ≡ 0 = ap (λ (k : Shape). k .r) shape-now in
+        let n : shapeOf t .n ≡ shapeOf s .n = ap (λ (k : Shape). k .n) shape-now in
+        let c : shapeOf t .c ≡ shapeOf s .c = ap (λ (k : Shape). k .c) shape-now in
+        let unit = between-unit (shapeOf t) 0 (omega arith) (omega (arith, fitting-limits s (z .fitting) .r-high)) in
+        let unheld : (i : ℕ) → member 0 (unitsOf s i) ≡ false = λ i.
+        is-false (member 0 (unitsOf s i)) (λ m. let past = unit-past (shapeOf s) 0 (units-are-units s 0 i m) in omega arith) in
+        let new = freeUnit-intro t 0 unit (λ i b. ap (member 0) (h .units i (omega arith)) ∙ unheld i) in
+        let was = freeUnit-past s 0 (ap (λ (f : ℕ → Bool). f 0) (sym (h .free-units)) ∙ new) in
+        omega arith
+
 -- The sentences settle every byte: they are said of the converted image alone.
 pub converts-only : (g : Shape) (s t : List ℕ) → Sound g s → Bytes t → Converts s t → t ≡ converted s
-converts-only g s t z b h = settled s t (converted s) h (tested-converts s (sound-tested g s z)) b (bytes-converted s t h b)
+converts-only g s t z b h =
+    let k = sound-tested g s z in settled s t (converted s) h (tested-converts s k (all-units s t k h)) b (bytes-converted s t h b)
 
 module _ (s out : List ℕ) (n : ℕ) (e : convertAnswer s (length out) ≡ BytesLeft n) where
   was-first : firstVerdict s ≡ Passed
@@ -211,7 +239,7 @@ module _ (s out : List ℕ) (n : ℕ) (e : convertAnswer s (length out) ≡ Byte
 
   -- Document 02's sentences on what is left there, all of them.
   pub convert-converts : Converts s (convertOut s out)
-  convert-converts = subst (Converts s) (sym (whole-buffer .0)) (tested-converts s (first-known s was-first .1))
+  convert-converts = subst (Converts s) (sym (whole-buffer .0)) (tested-converts s (first-known s was-first .1) (none-reserved s was-first))
 
   -- What is left is refused by a second conversion, with 2.
   pub again-refused : (room : ℕ) → convertAnswer (convertOut s out) room ≡ Refused Foreign

@@ -16,9 +16,9 @@ use Rattle.convert.specs.declared.Converted.the-variants.{Bytes, Refused
 
 -- ---- the image of edition 2
 
--- its shape: edition 2, and the same P, C, M and N
+-- its shape: edition 2, the same P, C, M and N, and no reserved unit: "the converter writes 0"
 abbrev pub secondOf : Shape → Shape
-secondOf g = edition2 (g .p) (g .c) (g .m) (g .n)
+secondOf g = edition2 (g .p) (g .c) (g .m) (g .n) 0
 
 -- "the new length": that of the converted image
 abbrev pub newBytes : List ℕ → ℕ

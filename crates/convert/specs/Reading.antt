@@ -13,7 +13,7 @@ use Rattle.convert.specs.Convert.{secondOf}
 
 -- the image s became t, "from 1 to 2"
 pub record Converts (s t : List ℕ) : Type 0 where
-  -- t is a sound image of edition 2 with the same P, C, M and N
+  -- t is a sound image of edition 2 with the same P, C, M and N, and no reserved unit
   pub sound : Sound (secondOf (shapeOf s)) t
   -- every chunk has the entry that it had: it names the same map, or none
   pub entries : (i : ℕ) → i < shapeOf s .c → linkOf t i ≡ linkOf s i

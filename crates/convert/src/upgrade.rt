@@ -29,6 +29,7 @@ fn second_of(g: Shape) -> Shape
         c: g.c,
         m: g.m,
         n: g.n,
+        r: 0,
     }
 }
 
