@@ -13,7 +13,7 @@ use Rattle.steps.specs.declared.Request.{Request}
 use Rattle.steps.specs.declared.Request.the-variants.{Write, Discard}
 use Rattle.steps.specs.Steps.{encode, encodeAll, gather, stepsOf, decodeAt, decodeFields}
 use Rattle.rules.specs.Rules.{known, brokenRule, rule1, rule2, rule3, rule4, rule5, onceEach, linksAre, collect, every, pieceIn, unitIn, mapIn, wordIn, linkIn, linkedIn, unitOf, planMap, wordInRange, mapFits, endsIn, beforeLink, afterLink}
-use Rattle.layout.specs.Layout.{mapWords, afterHead}
+use Rattle.layout.specs.Layout.{edition1, mapWords, afterHead}
 
 -- whether the chunk is mapped, the request, the plan, and the lowest rule broken
 pub record Case : Type 0 where
@@ -25,7 +25,7 @@ pub record Case : Type 0 where
 unfoldable pub holds : Case → Bool
 holds k =
     eqb (k .broken)
-    (brokenRule (known (record { edition = 1; p = 4; c = 4; m = 5; n = 20 }) (λ u. ltb u 20) (λ a. ltb a 5) (k .mapped)) (k .request) (encodeAll (k .steps)))
+    (brokenRule (known (edition1 4 4 5 20) (λ u. ltb u 20) (λ a. ltb a 5) (k .mapped)) (k .request) (encodeAll (k .steps)))
 
 abbrev pub write : List Step → ℕ → Case
 write xs r = record { mapped = false; request = Write 2 6144; steps = xs; broken = r }

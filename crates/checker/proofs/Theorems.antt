@@ -19,10 +19,13 @@ use Rattle.image.specs.Soundness.{Sound}
 use Rattle.image.specs.Verdicts.{verdict}
 use Rattle.image.specs.Rows.{Row}
 use Rattle.image.specs.Answers.{ifSound}
+use Rattle.image.proofs.Room.{freeUnit-past}
 use Rattle.image.proofs.Theorems.{passed-is-sound, sound-is-passed, refused-is-row, row-is-refused}
 use Rattle.steps.specs.declared.Step.{Step}
+use Rattle.steps.specs.declared.Step.the-variants.{Data}
 use Rattle.steps.specs.declared.Decoded.the-variants.{Whole}
 use Rattle.steps.specs.declared.Request.{Request}
+use Rattle.steps.specs.declared.Request.the-variants.{Write, Discard}
 use Rattle.steps.specs.Steps.{wholeSteps, decodeAt, stepsOf, chunkOf}
 use Rattle.rules.specs.declared.Checked.{Checked}
 use Rattle.rules.specs.declared.Checked.the-variants.{Accepted, Refused}
@@ -177,3 +180,12 @@ module _ (s : List ℕ) (r : Request) (plan : List ℕ) where
 
   pub lowest-is-bad-plan : (n : ℕ) → Sound g s → GoodRequest g r → LowestBroken kn r plan n → checked s r plan ≡ Refused (BadPlan n)
   lowest-is-bad-plan n z h l = holding-is-answered (Refused (BadPlan n)) (z, h, l)
+
+-- ---- the reserved units
+
+-- "Units below R are never free": no accepted plan has a DATA step on one, so none of them is ever written to.
+pub spares-reserved : (s : List ℕ) (r : Request) (plan : List ℕ) → Bytes s → checked s r plan ≡ Accepted
+    → (i u j w : ℕ) → At (stepsOf plan) i (Data u j w) → shapeOf s .r ≤ u
+spares-reserved s (Write c size) plan b e i u j w x =
+    freeUnit-past s u (accepted-is-kept s (Write c size) plan b e .2 2 .free-units i u j w x)
+spares-reserved s (Discard c) plan b e i u j w x = absurd (accepted-is-kept s (Discard c) plan b e .2 2 i u j w x)
