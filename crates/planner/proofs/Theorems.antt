@@ -1,5 +1,5 @@
 -- The theorems of this crate that a reader wants.
-use Prim.Native.Nat.{ℕ, _+_, _*_, _≤_, _<_}
+use Prim.Native.Nat.{ℕ, _+_, _-_, _*_, _≤_, _<_}
 use native.Mathlib.Omega.{arith}
 use mathlib.Core.Path.{_≡_, refl, ap, sym, subst, _∙_}
 use mathlib.Core.Bool.{Bool, true, false, cond}
@@ -14,7 +14,7 @@ use Rattle.search.proofs.Members.{first-taken}
 use Rattle.search.proofs.Rising.{taken-lowest}
 use Rattle.layout.specs.declared.Refusal.{Refusal}
 use Rattle.layout.specs.declared.Refusal.the-variants.{Range, Size, NoRoom, Small}
-use Rattle.layout.specs.Layout.{X, shapeOf, unitsFor, head, mapWords}
+use Rattle.layout.specs.Layout.{X, firstEdition, shapeOf, unitsFor, head, mapWords}
 use Rattle.layout.proofs.Limits.{fitting-limits, map-words}
 use Rattle.image.specs.declared.Verdict.{Verdict}
 use Rattle.image.specs.declared.Verdict.the-variants.{Passed, Refused as Unsound}
@@ -141,13 +141,22 @@ need-few : (s : List ℕ) (r : Request) → Good s r → needOf r ≤ shapeOf s 
 need-few s (Write i size) g = let h = g .request .2 in omega arith
 need-few s (Discard i) g = omega arith
 
--- "With N at least (C+1)·P it never does for one write."
-pub always-room : (s : List ℕ) (r : Request) (room n : ℕ) → (shapeOf s .c + 1) * shapeOf s .p ≤ shapeOf s .n → planAnswer s r room ≡ Refused (NoRoom n) → ⊥
+-- "Refusal 9 never occurs for one write when N-R is at least (C+1)·P."
+pub always-room : (s : List ℕ) (r : Request) (room n : ℕ) → (shapeOf s .c + 1) * shapeOf s .p ≤ shapeOf s .n - shapeOf s .r
+    → planAnswer s r room ≡ Refused (NoRoom n) → ⊥
 always-room s r room n h e =
     let f = refused-is-no-room s r room n e in
     let q : n ≡ length (freeUnits s) = f .1 in
     let low : n < needOf r = f .2 in
     omega (arith, units-free s h, need-few s r (f .0))
+
+-- 01's "With N at least (C+1)·P it never does for one write" is its instance: edition 1 reserves no unit.
+pub always-room-first : (s : List ℕ) (r : Request) (room n : ℕ) → shapeOf s .edition ≡ firstEdition → (shapeOf s .c + 1) * shapeOf s .p ≤ shapeOf s .n
+    → planAnswer s r room ≡ Refused (NoRoom n) → ⊥
+always-room-first s r room n first h e =
+    let f = refused-is-no-room s r room n e in
+    let none = fitting-limits s (passed-tested s (f .0 .sound) .fitting) .r-first first in
+    always-room s r room n (omega arith) e
 
 -- ---- the planner's write: "on the k lowest free units, rising; .. the lowest free map"
 
