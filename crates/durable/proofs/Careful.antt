@@ -1,5 +1,6 @@
--- A careful plan stores in no named map and writes no held unit. So each chunk whose entry stays keeps its units and its pieces.
+-- A careful plan stores in no named map and writes to no held and no reserved unit. So each chunk whose entry stays keeps its units and its pieces.
 use Prim.Native.Nat.{ℕ, _<_}
+use native.Mathlib.Omega.{arith}
 use mathlib.Core.Path.{_≡_, refl, sym, ap, _∙_}
 use mathlib.Core.Bool.{true}
 use mathlib.Core.List.{List, map}
@@ -13,7 +14,7 @@ use Rattle.search.proofs.Mapping.{map-ext}
 use Rattle.layout.specs.Shaped.{On}
 use Rattle.layout.proofs.Place.{place-past, place-map}
 use Rattle.image.proofs.Fate.{Same, same-units}
-use Rattle.image.proofs.Room.{freeUnit-unheld, freeMap-unnamed}
+use Rattle.image.proofs.Room.{freeUnit-past, freeUnit-unheld, freeMap-unnamed}
 use Rattle.steps.specs.declared.Step.{Step}
 use Rattle.steps.specs.declared.Step.the-variants.{Data, Map, Link, Fence}
 use Rattle.rules.specs.Rules.{planMap, units}
@@ -29,6 +30,7 @@ pub record Careful (g : Shape) (s : List ℕ) (xs : List Step) : Type 0 where
   pub range : Each (InRange g) xs
   pub maps : (i j : ℕ) → i < g .c → mapped s i ≡ true → j < mapWords g → Each (Misses g (mapWordPlace g (linkOf s i) j)) xs
   pub units : (i u : ℕ) → i < g .c → member u (unitsOf s i) ≡ true → Each (Spares u) xs
+  pub reserved : (u : ℕ) → u < g .r → Each (Spares u) xs
 
 module _ {A : Type 0} where
   pub holds-is : (v : Volume A) (i : ℕ) → holds v i ≡ map (v .content) (unitsOf (v .image) i)
@@ -63,6 +65,7 @@ careful-write s c size xs r h = record {
   range = r;
   maps = λ i j b m p. each-two (off i j b p) xs r (h .on-map);
   units = λ i u b m. each-spares u xs (λ q. contradict m (freeUnit-unheld s u (h .units-free u q) i b));
+  reserved = λ u b. each-spares u xs (λ q. let past = freeUnit-past s u (h .units-free u q) in omega arith);
 }
   where
     off : (i j : ℕ) → i < shapeOf s .c → j < mapWords (shapeOf s) → (x : Step) → InRange (shapeOf s) x → OnMap (planMap xs) x
@@ -78,9 +81,13 @@ pub careful-discard : (s : List ℕ) (c : ℕ) (xs : List Step) → Each (InRang
 careful-discard s c xs r h = record {
   range = r;
   maps = λ i j b m p. each-two (off i j) xs r (h .no-map);
-  units = λ i u b m. each-spares u xs (λ q. contradict q (ap (member u) (none-empty (units xs) (h .no-data)) ∙ member-nil u));
+  units = λ i u b m. none u;
+  reserved = λ u b. none u;
 }
   where
+    none : (u : ℕ) → Each (Spares u) xs
+    none u = each-spares u xs (λ q. contradict q (ap (member u) (none-empty (units xs) (h .no-data)) ∙ member-nil u))
+
     off : (i j : ℕ) → (x : Step) → InRange (shapeOf s) x → NoMap x → Misses (shapeOf s) (mapWordPlace (shapeOf s) (linkOf s i) j) x
     off i j (Data u w wr) q n = tt
     off i j (Map k w y) q n = absurd n

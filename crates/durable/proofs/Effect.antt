@@ -196,6 +196,16 @@ module _ {A : Type 0} (g : Shape) (v : Volume A) (e : Event A) (d : Intact g (v 
       go (inl h) = subst (λ (w : Volume A). Intact g (w .image)) (sym (after-ahead v e h)) (ahead-intact h)
       go (inr h) = subst (λ (w : Volume A). Intact g (w .image)) (sym (after-refused v e h)) d
 
+  pub event-reserved : (u : ℕ) → u < g .r → after v e .content u ≡ v .content u
+  event-reserved u b = go (either (goesAhead s e))
+    where
+      low : u < shapeOf s .r
+      low = subst (λ (k : Shape). u < k .r) (sym (d .order .on .shape)) b
+
+      go : (goesAhead s e ≡ true) ⊎ (goesAhead s e ≡ false) → after v e .content u ≡ v .content u
+      go (inl h) = ap (λ (w : Volume A). w .content u) (after-ahead v e h) ∙ settled h .reserved u low
+      go (inr h) = ap (λ (w : Volume A). w .content u) (after-refused v e h)
+
   pub event-holds : (i : ℕ) → i < g .c → holds (after v e) i ≡ entered (holds v) (entry e (outcome (v .image) e)) i
   event-holds i b = go (either (goesAhead s e))
     where

@@ -12,7 +12,7 @@ use Rattle.image.specs.Soundness.{Sound}
 use Rattle.steps.specs.Steps.{chunkOf}
 use Rattle.durable.specs.Events.{Volume, Event, Outcome, refused, finished, cut, after, run, holds, newPieces, outcome, takesEffect, entry, entries, entered, ledger}
 use Rattle.durable.specs.Demand.{Untouched, KeptFromSound}
-use Rattle.durable.proofs.Effect.{Intact, sound-intact, intact-sound, cut-ahead, finished-ahead, after-refused, was-ahead, was-refused, chunk-in, landed-whole, event-intact, event-holds}
+use Rattle.durable.proofs.Effect.{Intact, sound-intact, intact-sound, cut-ahead, finished-ahead, after-refused, was-ahead, was-refused, chunk-in, landed-whole, event-intact, event-reserved, event-holds}
 use Rattle.durable.proofs.Carrying.{as-carry}
 
 -- an event that takes effect was not refused
@@ -90,6 +90,13 @@ module _ {A : Type 0} where
         ∙ run-booked (entered l (entry e (outcome (v .image) e))) (after v e) es (event-intact g v e d)
         (λ j c. event-holds g v e d j c ∙ entered-ext (holds v) e (outcome (v .image) e) l j (h j c)) i b
 
+    run-reserved : (u : ℕ) → u < g .r → (v : Volume A) (es : List (Event A)) → Intact g (v .image) → run v es .content u ≡ v .content u
+    run-reserved u b v [] d = ap (λ (w : Volume A). w .content u) (run-nil v)
+    run-reserved u b v (e ∷ es) d =
+        ap (λ (w : Volume A). w .content u) (run-cons v e es)
+        ∙ run-reserved u b (after v e) es (event-intact g v e d)
+        ∙ event-reserved g v e d u b
+
     run-untouched :
         (c : ℕ) → c < g .c → (v : Volume A) (es : List (Event A)) → Intact g (v .image) → Untouched c v es → holds (run v es) c ≡ holds v c
     run-untouched c b v [] d h = ap (λ (w : Volume A). holds w c) (run-nil v)
@@ -119,6 +126,7 @@ kept-from-sound A g start l es z h = record {
   sound = end;
   owners = λ u i j a b n m. end .units u i j a b n m .0;
   booked = run-booked g l start es d h;
+  reserved = λ u b. run-reserved g u b start es d;
   inFlight = λ past later e b p o.
       own-holds g (run start past) e (then past) (cut b) o (cut-ahead b) ∙ entered-cut (holds (run start past)) e b;
   stays = λ past later e p o u.

@@ -29,7 +29,7 @@ use Rattle.rules.proofs.StepLaws.{InRange, Links, OnLink, on-links, each-in-ran
 use Rattle.rules.proofs.Facts.{Writes, writes, Discards, discards, discards-nothing}
 use Rattle.durable.specs.Events.{Volume, Event, lands, complete, settle, linkLands, holds, newPieces}
 use Rattle.durable.specs.LoadsBack.{newLink, newSize, newUnits}
-use Rattle.durable.proofs.Settle.{Solid, settle-nil, set-content}
+use Rattle.durable.proofs.Settle.{Solid, settle-nil, set-content, keep-content}
 use Rattle.durable.proofs.Linking.{linkLandsOn, lands-own, lands-other, set-link}
 use Rattle.durable.proofs.Fences.{solid, complete-link, all-landed}
 use Rattle.durable.proofs.Careful.{Careful, careful-write, careful-discard, holds-is}
@@ -57,6 +57,8 @@ module _ {A : Type 0} (v : Volume A) (e : Event A) (d : Orderly (shapeOf (v .ima
     pub new : (linkLands e 0 (stepsOf (e .plan)) ≡ true) ⊎ (complete e ≡ true) → (i : ℕ) → i < shapeOf (v .image) .c
         → holds (settle e 0 (stepsOf (e .plan)) v) i ≡ cond (eqb i (chunkOf r)) (newPieces r (e .payload)) (holds v i)
     pub whole : complete e ≡ true → (i : ℕ) → i < length (stepsOf (e .plan)) → lands e i ≡ true
+    -- what the reserved units hold
+    pub reserved : (u : ℕ) → u < shapeOf (v .image) .r → settle e 0 (stepsOf (e .plan)) v .content u ≡ v .content u
     -- the entry, the stored size and the units of the request's chunk, and of every other
     pub own : complete e ≡ true
         → (linkOf (settle e 0 (stepsOf (e .plan)) v .image) (chunkOf r) ≡ newLink r (stepsOf (e .plan)))
@@ -121,6 +123,7 @@ module _ {A : Type 0} (v : Volume A) (e : Event A) (d : Orderly (shapeOf (v .ima
       old = λ p z i q. still-holds v e d k i q (still-quiet i p (either (eqb i c)));
       new = λ p i q. moved (some p) i q (either (eqb i c));
       whole = all;
+      reserved = λ u q. keep-content e u 0 xs v (k .reserved u q);
       own = λ p. let q : linkLands e 0 xs ≡ true = some (inr p) in (
         set-link e g c b w 0 xs v (d .on) (k .range) (each-map (OnLink c w) (Links c w) xs (on-links c w) l) (lands-here ∙ q),
         job-size v e d k c b (lands-here ∙ q) (job q) ∙ right q .1,
@@ -156,6 +159,7 @@ module _ {A : Type 0} (v : Volume A) (e : Event A) (d : Orderly (shapeOf (v .ima
     old = λ p q i b. ap (λ (w : Volume A). holds w i) same;
     new = λ p i b. ap (λ (w : Volume A). holds w i) same ∙ go i (either (eqb i c));
     whole = λ q i b. absurd (let z = ap length n in omega arith);
+    reserved = λ u b. ap (λ (w : Volume A). w .content u) same;
     own = λ q. (
       ap (λ (w : Volume A). linkOf (w .image) c) same ∙ unmapped-absent s c m,
       ap (λ (w : Volume A). storedSize (w .image) c) same ∙ stored-unmapped s c m ∙ sym (kept-none g),

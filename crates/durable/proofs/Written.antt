@@ -16,8 +16,7 @@ use Rattle.layout.specs.Shaped.{On}
 use Rattle.image.proofs.Fate.{Renewed}
 use Rattle.image.proofs.Storing.{stored-mapped, kept-same}
 use Rattle.image.proofs.NewMap.{NewMap, new-size, new-form, new-mapped, new-units}
-use Rattle.layout.proofs.Limits.{below-unit}
-use Rattle.image.proofs.Room.{freeUnit-below, freeUnit-unheld, freeMap-below, freeMap-unnamed}
+use Rattle.image.proofs.Room.{freeUnit-unit, freeUnit-unheld, freeMap-below, freeMap-unnamed}
 use Rattle.steps.specs.declared.Step.{Step}
 use Rattle.steps.specs.Encodable.{Each}
 use Rattle.rules.proofs.StepLaws.{InRange}
@@ -57,7 +56,7 @@ module _ {A : Type 0} (v : Volume A) (e : Event A) (xs : List Step) (c size k m 
     some = h .some;
     fits = h .fits;
     sized = h .sized;
-    here = λ j p. below-unit g (unit j) (freeUnit-below s (unit j) (h .unit-free j p));
+    here = λ j p. freeUnit-unit s (unit j) (h .unit-free j p);
     past = h .unit-past;
   }
 

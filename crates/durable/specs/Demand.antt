@@ -26,13 +26,15 @@ module _ {A : Type 0} where
   -- From the volume `start` of shape g, with a ledger that gave l then, the events es came. Where es is `past ++ e ∷ later`, event e found the volume
   -- `run start past` and left `after (run start past) e`.
   pub record Kept (g : Shape) (start : Volume A) (l : ℕ → List A) (es : List (Event A)) : Type 0 where
-    -- Every beginning of a list is a list too: so these three hold after each event.
+    -- Every beginning of a list is a list too: so these four hold after each event.
     -- The image is sound, with the trailer that it had.
     pub sound : Sound g (run start es .image)
     -- No unit has two owners: "A unit's owners are the chunks whose maps name it."
     pub owners : (u i j a b : ℕ) → NamesUnit g (run start es .image) i a u → NamesUnit g (run start es .image) j b u → i ≡ j
     -- Every chunk holds what the ledger gives it.
     pub booked : (i : ℕ) → i < g .c → holds (run start es) i ≡ ledger l (entries start es) i
+    -- "Keep the first units for the boot loader" (02, request 5): what each reserved unit held at the start it holds still.
+    pub reserved : (u : ℕ) → u < g .r → run start es .content u ≡ start .content u
     -- A chunk in flight holds all its new pieces or all its old ones: the new ones if the LINK landed, which b says.
     pub inFlight :
         (past later : List (Event A)) (e : Event A) (b : Bool) → es ≡ past ++ e ∷ later → outcome (run start past .image) e ≡ cut b

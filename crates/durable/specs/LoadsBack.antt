@@ -29,7 +29,7 @@ use Rattle.carry.specs.Carry.{carryImage}
 
 -- In the sound image s, of shape g, chunk c got the entry `link`, the stored size `size` and the units us, and nothing else became of it: t is the image then.
 pub record LoadsBack (g : Shape) (s : List ℕ) (c link size : ℕ) (us : List ℕ) (t : List ℕ) : Type 0 where
-  -- It loads, with the same edition, P, C, M and N.
+  -- It loads, with the same edition, P, C, M, N and R.
   pub sound : Sound g t
   pub loads : loaded t ≡ record { verdict = Passed; shape = g; units = bitSet (freeUnit t) unitSetWords; maps = bitSet (freeMap t) mapSetWords }
   -- the chunk's map, its stored size, and its units, in map order
