@@ -5,7 +5,7 @@ use lib.ListN.{replicate}
 use Rattle.search.specs.Search.{below, from}
 use Rattle.layout.specs.declared.Refusal.the-variants.{BadMap, Shared, Size}
 use Rattle.layout.specs.Layout.{X, edition2}
-use Rattle.layout.specs.Format.{format2Image}
+use Rattle.layout.specs.Format.{formatImage}
 use Rattle.steps.specs.declared.Value.{Value}
 use Rattle.steps.specs.declared.Value.the-variants.{Number, Absent}
 use Rattle.steps.specs.declared.Step.{Step}
@@ -15,7 +15,7 @@ use Rattle.cases.specs.Table.{Case, free, plans, refuses, takes, stores,
 
 -- "C=4, P=4, M=5, N=20" in edition 2: 4 words, 5 maps of 5 words, 40 bytes
 abbrev pub second : List ℕ
-second = format2Image (edition2 4 4 5 20) 0 (replicate 272 0)
+second = formatImage (edition2 4 4 5 20 0) (replicate 272 0)
 
 -- a plan for the first write with this in word 0 of its map: "first the compressed size, then the units"
 abbrev pub planOfSize : Value → List Step

@@ -1,5 +1,5 @@
 -- Document 01's worked cases of the 224-byte volume, 'The 64 KB volume worked through', and its 'How a map comes to lie', as one table. Each row asks the
--- definitions that the promises cite. The questions are asked of a volume, so that request 4's table (Second.antt) asks them too.
+-- definitions that the promises cite. The questions are asked of a volume, so that the tables of requests 4 and 5 (Second.antt, Reserved.antt) ask them too.
 use Prim.Native.Nat.{ℕ, _+_, _*_, _%_}
 use mathlib.Core.Path.{_≡_}
 use mathlib.Core.Bool.{Bool, true, false}
@@ -9,7 +9,7 @@ use lib.ListN.{length, replicate}
 use Rattle.search.specs.Search.{below, from}
 use Rattle.bitset.specs.Bits.{members}
 use Rattle.layout.specs.declared.Refusal.{Refusal}
-use Rattle.layout.specs.declared.Refusal.the-variants.{Shared, Size}
+use Rattle.layout.specs.declared.Refusal.the-variants.{Shared, Size, NoRoom}
 use Rattle.layout.specs.Layout.{edition1, mapWords, putWord, shapeOf}
 use Rattle.layout.specs.Format.{formatImage}
 use Rattle.layout.specs.Refusals.{refusalNumber, refusalPlace, refusalSecond}
@@ -86,6 +86,10 @@ pub data Case : Type 0 where
   checks : List Request → Request → List Step → ℕ → ℕ → Case
   -- after these requests edition 1 code gives this number on the image, 0 where it passes
   foreign : List Request → ℕ → Case
+  -- load answers so many reserved units
+  reserves : ℕ → Case
+  -- after these requests a further one is refused for room, with so many free units
+  lacks : List Request → Request → ℕ → Case
 
 -- the image with words stored
 abbrev pub putWords : List ℕ → List (ℕ × ℕ) → List ℕ
@@ -132,6 +136,8 @@ module _ (start : List ℕ) where
       (loaded (putWords (left rs) ws) .verdict ≡ Unsound x) × (refusalNumber x ≡ k) × (refusalPlace x ≡ i) × (refusalSecond x ≡ j)
   Right (checks rs r xs k place) = numbersOf (checked (left rs) r (encodeAll xs)) ≡ (k, place)
   Right (foreign rs k) = verdictNumber (firstVerdict (left rs)) ≡ k
+  Right (reserves k) = loaded start .shape .r ≡ k
+  Right (lacks rs r k) = (planAnswer (left rs) r planRoom ≡ Unplanned (NoRoom k)) × (refusalNumber (NoRoom k) ≡ 9) × (refusalPlace (NoRoom k) ≡ k)
 
   abbrev pub AllRight : List Case → Type 0
   AllRight [] = Unit {0}
