@@ -6,7 +6,8 @@
  * An image is the metadata of one volume: C logical entries, M chunk maps, and a trailer. A unit is 4,096 bytes. There are two editions. Every call but
  * convert takes either:
  *    edition 1   maps of P words, the units; a 32-byte trailer; at most 38,944 bytes
- *    edition 2   maps of P + 1 words, the compressed size and then the units; a 40-byte trailer; at most 41,256 bytes
+ *    edition 2   maps of P + 1 words, the compressed size and then the units; a 40-byte trailer; at most 41,256 bytes; the first R of its N backing units
+ *                may be reserved, for instance for a boot loader: no call counts one free, gives one to a chunk or accepts a plan that writes to one
  * The last 32 bytes are tried as edition 1's trailer first, then the last 40 as edition 2's.
  *
  * Slices. A slice is a pointer and a number of elements. (NULL, 0) is an empty slice; otherwise the pointer leads to that many elements, aligned to
@@ -19,10 +20,10 @@
  *     1   SHORT       image under 32 bytes                                          0
  *     2   FOREIGN     no trailer's first four bytes and version                     0
  *     3   GEOMETRY    a limit broken, or a distance or length that disagrees, or    0
- *                     edition 2's two last numbers not 0
+ *                     edition 2's last number not 0
  *     4   BAD LINK    entry neither absent nor below M                              lowest such chunk
- *     5   BAD MAP     a named map of the wrong form; in edition 2 also a size       lowest such chunk
- *                     that does not take just the units that the map names
+ *     5   BAD MAP     a named map of the wrong form; in edition 2 also a reserved   lowest such chunk
+ *                     unit, or a size that does not take just the units named
  *     6   SHARED      a map or unit claimed twice                                   the two chunks: place and second
  *     7   RANGE       chunk not below C; byte range empty, off the 4,096 grain,     0
  *                     past the volume's end or (access) across chunks; step count
@@ -99,7 +100,7 @@ typedef struct {
     uint64_t number, place, second;
     uint64_t mapped;    /* mapped chunks */
     uint64_t held;      /* units that named maps hold */
-    uint64_t free;      /* all other units */
+    uint64_t free;      /* all other units but the R reserved ones: held + free = N - R */
     uint64_t saved;     /* mapped * P less held: what the mapped chunks would take more, stored raw */
     double held_ratio;  /* held / N */
     double saved_ratio; /* saved / (mapped * P); 0.0 when nothing is mapped */
@@ -112,21 +113,23 @@ typedef struct {
     uint64_t c;       /* chunks */
     uint64_t m;       /* chunk maps */
     uint64_t n;       /* backing units */
-    uint64_t r;       /* 0 */
+    uint64_t r;       /* reserved units, 0 in edition 1 */
 } sumbilak_shape_answer;
 
 /* Writes the image of a fresh volume of edition 1: p units in a chunk (2 to 16), c chunks (1 to 256), m chunk maps (c+1 to c+32), n backing units (p to p*m). Any
  * length but SUMBILAK_IMAGE_BYTES(p, c, m) is refused too. With n at least (c+1)*p a write never finds too little room. Refuses with 3 only. */
 sumbilak_answer sumbilak_format(uint8_t *image, size_t len, uint64_t p, uint64_t c, uint64_t m, uint64_t n);
 
-/* The same in edition 2, with the length SUMBILAK_IMAGE2_BYTES(p, c, m). r must be 0. Refuses with 3 only. */
+/* The same in edition 2, with the length SUMBILAK_IMAGE2_BYTES(p, c, m), and the first r of the n units reserved (0 to n-p). With n-r at least (c+1)*p a write
+ * never finds too little room. Refuses with 3 only. */
 sumbilak_answer sumbilak_format2(uint8_t *image, size_t len, uint64_t p, uint64_t c, uint64_t m, uint64_t n, uint64_t r);
 
 /* Judges an image and answers its edition and geometry. Refuses with 1 to 6. */
 sumbilak_shape_answer sumbilak_shape(const uint8_t *image, size_t len);
 
-/* Judges an image and rebuilds its free sets. Writes P, C, M, N, then 72 words with a bit for each free unit, then 5 words with a bit for each free map
- * (number u is bit u % 64 of word u / 64). Refuses with 1 to 6, and 10 for fewer than 81 words (place 648). */
+/* Judges an image and rebuilds its free sets. value: the reserved units R, 0 in edition 1. Writes P, C, M, N, then 72 words with a bit for each free unit (a
+ * reserved one is never free), then 5 words with a bit for each free map (number u is bit u % 64 of word u / 64). Refuses with 1 to 6, and 10 for fewer than
+ * 81 words (place 648). */
 sumbilak_answer sumbilak_load(const uint8_t *image, size_t len, uint64_t *out, size_t out_len);
 
 /* Splits `length` bytes of the volume from `offset` at chunk boundaries. value: pieces. Writes for each piece, rising, three little-endian u32: chunk,
@@ -178,15 +181,17 @@ sumbilak_answer sumbilak_carry_discard(uint8_t *image, size_t len, uint64_t chun
 sumbilak_answer sumbilak_repair(uint8_t *image, size_t len, uint8_t *out, size_t out_len);
 
 /* Writes an image of edition 1 as one of edition 2 into a second buffer of just SUMBILAK_IMAGE2_BYTES(p, c, m) bytes. Every chunk keeps its map's number and
- * its units, in order; the size of a map that is named is 4,096 for each of its units; a map that no chunk names is absent throughout. value: bytes written.
+ * its units, in order; the size of a map that is named is 4,096 for each of its units; a map that no chunk names is absent throughout; no unit is reserved.
+ * value: bytes written.
  * Refuses with 1; with 2 whatever is not read as edition 1, an image of edition 2 too; with 3 to 6; and with 10 for a buffer of any other length. */
 sumbilak_answer sumbilak_convert(const uint8_t *image, size_t len, uint8_t *out, size_t out_len);
 
-/* Counts of the volume and two ratios, each one rounded division. Refuses with 1 to 6. */
+/* Counts of the volume and two ratios, each one rounded division; held / N has the reserved units in its N. Refuses with 1 to 6. */
 sumbilak_report_answer sumbilak_report(const uint8_t *image, size_t len);
 
 /* Whether fewer units are free than a level. value: 1 sounds, 0 silent. The level is a count of units, or a fraction of N from 0 to 1, whose product with
- * N is rounded once. Refuses with 1 to 6, and a fraction with 12. */
+ * N is rounded once. The reserved units are counted in N, and never as free: a fraction above (N - R) / N always sounds. Refuses with 1 to 6, and a
+ * fraction with 12. */
 sumbilak_answer sumbilak_alarm_count(const uint8_t *image, size_t len, uint64_t units);
 sumbilak_answer sumbilak_alarm_fraction(const uint8_t *image, size_t len, double fraction);
 

@@ -192,7 +192,6 @@ static void edition_2(void)
     is("format", sumbilak_format2(image, IMAGE2, P, C, M, N, 0).number, 0);
     is("trailer", (uint64_t)memcmp(image + 232, trailer, 40), 0);
     memcpy(other, image, IMAGE2);
-    is("no unit is reserved yet", sumbilak_format2(image, IMAGE2, P, C, M, N, 1).number, 3);
     is("21 units", sumbilak_format2(image, IMAGE2, P, C, M, 21, 0).number, 3);
     is("edition 1's length", sumbilak_format2(image, IMAGE, P, C, M, N, 0).number, 3);
     is("a refusal changes nothing", (uint64_t)memcmp(image, other, IMAGE2), 0);
@@ -251,6 +250,159 @@ static void edition_2(void)
     is("with its size", sumbilak_stored_size(other, IMAGE2, 1).value, 4095);
 }
 
+/* The same volume with its first R units reserved: no call counts one free, gives one to a chunk or accepts a plan that writes to one. */
+static void reserved_units(void)
+{
+    enum { R = 3 };
+    uint8_t image[IMAGE2], other[IMAGE2], old[IMAGE], list[16], plan[SUMBILAK_MAX_WRITE2_STEPS * SUMBILAK_STEP_BYTES];
+    uint64_t loaded[SUMBILAK_LOAD_WORDS];
+    static const uint8_t trailer[40] = {0x52, 0x4D, 0x41, 0x50, 2, 0, 4, 0, 4, 0, 0, 0, 5, 0, 0, 0, 0x14, 0, 0, 0,
+                                        0xE8, 0,    0,    0,    0xC8, 0, 0, 0, 0x10, 1, 0, 0, 3, 0, 0, 0, 0,    0, 0, 0};
+
+    is("all but P units reserved", sumbilak_format2(image, IMAGE2, P, C, M, N, 16).number, 0);
+    is("a raw write takes the rest", write_in(image, IMAGE2, 1, 16384, 0), 12);
+    is("units 16 to 19", units_in(image, IMAGE2, 1), 0x10111213);
+    is("and leaves none", sumbilak_plan_write(image, IMAGE2, 0, 1, plan, sizeof plan).number, 9);
+    is("free 0", sumbilak_plan_write(image, IMAGE2, 0, 1, plan, sizeof plan).place, 0);
+    is("none reserved", sumbilak_format2(image, IMAGE2, P, C, M, N, 0).number, 0);
+    is("R 0", sumbilak_load(image, IMAGE2, loaded, SUMBILAK_LOAD_WORDS).value, 0);
+    is("format", sumbilak_format2(image, IMAGE2, P, C, M, N, R).number, 0);
+    is("trailer", (uint64_t)memcmp(image + 232, trailer, 40), 0);
+    memcpy(other, image, IMAGE2);
+    static const uint64_t above[] = {17, 20, UINT32_MAX, UINT64_C(1) << 32, (UINT64_C(1) << 32) + 3, UINT64_MAX};
+    for (size_t i = 0; i < sizeof above / sizeof above[0]; i++)
+        is("R above N-P", sumbilak_format2(image, IMAGE2, P, C, M, N, above[i]).number, 3);
+    static const uint64_t any[] = {0, 1, UINT32_MAX, UINT64_C(1) << 32, UINT64_MAX};
+    for (size_t i = 0; i < sizeof any / sizeof any[0]; i++) {
+        is("N below P", sumbilak_format2(image, IMAGE2, P, C, M, 3, any[i]).number, 3);
+        is("no unit at all", sumbilak_format2(image, IMAGE2, P, C, M, 0, any[i]).number, 3);
+    }
+    is("21 units, R 17", sumbilak_format2(image, IMAGE2, P, C, M, 21, 17).number, 3);
+    is("a refusal changes nothing", (uint64_t)memcmp(image, other, IMAGE2), 0);
+
+    is("R of the shape", sumbilak_shape(image, IMAGE2).r, R);
+    is("N of the shape", sumbilak_shape(image, IMAGE2).n, N);
+    sumbilak_answer a = sumbilak_load(image, IMAGE2, loaded, SUMBILAK_LOAD_WORDS);
+    is("load", a.number, 0);
+    is("R of the load", a.value, R);
+    is("no extent", a.extent, 0);
+    is("N", loaded[3], N);
+    is("free units 3 to 19", loaded[4], 0xFFFF8);
+    uint64_t past = 0;
+    for (size_t i = 5; i < 76; i++)
+        past |= loaded[i];
+    is("no unit past 63", past, 0);
+    is("free maps 0 to 4", loaded[76], 0x1F);
+    a = sumbilak_load(image, IMAGE2, loaded, 80);
+    is("80 words", a.number, 10);
+    is("and no R", a.value, 0);
+    sumbilak_report_answer r = sumbilak_report(image, IMAGE2);
+    is("held", r.held, 0);
+    is("free", r.free, N - R);
+    is("17 units are silent", sumbilak_alarm_count(image, IMAGE2, 17).value, 0);
+    is("18 units sound", sumbilak_alarm_count(image, IMAGE2, 18).value, 1);
+    is("0.75 of N is silent", sumbilak_alarm_fraction(image, IMAGE2, 0.75).value, 0);
+    is("0.875 of N sounds", sumbilak_alarm_fraction(image, IMAGE2, 0.875).value, 1);
+
+    is("ten steps", write_in(image, IMAGE2, 2, 6144, 0), 10);
+    is("chunk 2 on units 3, 4", units_in(image, IMAGE2, 2), 0x0304);
+    is("its size", sumbilak_stored_size(image, IMAGE2, 2).value, 6144);
+    is("R stays", sumbilak_load(image, IMAGE2, loaded, SUMBILAK_LOAD_WORDS).value, R);
+    is("free units 5 to 19", loaded[4], 0xFFFE0);
+    is("the trailer stays", (uint64_t)memcmp(image + 232, trailer, 40), 0);
+    r = sumbilak_report(image, IMAGE2);
+    is("mapped", r.mapped, 1);
+    is("held", r.held, 2);
+    is("held and free are N-R", r.held + r.free, N - R);
+    is("saved", r.saved, 2);
+    is("held / N", r.held_ratio == 2.0 / 20.0, 1);
+    is("saved / (mapped * P)", r.saved_ratio == 2.0 / 4.0, 1);
+    is("15 units are silent", sumbilak_alarm_count(image, IMAGE2, 15).value, 0);
+    is("16 units sound", sumbilak_alarm_count(image, IMAGE2, 16).value, 1);
+
+    /* a MAP word or a DATA step on unit 2 */
+    is("plan", sumbilak_plan_write(image, IMAGE2, 0, 5120, plan, sizeof plan).value, 10);
+    is("on unit 5", plan[4], 5);
+    is("in word 1 of map 1", plan[3 * 16 + 12], 5);
+    memcpy(other, image, IMAGE2);
+    plan[3 * 16 + 12] = R - 1;
+    a = sumbilak_check_write(image, IMAGE2, 0, 5120, plan, 160);
+    is("a MAP word with a reserved unit", a.number, 11);
+    is("breaks rule 3", a.place, 3);
+    plan[4] = R - 1;
+    a = sumbilak_check_write(image, IMAGE2, 0, 5120, plan, 160);
+    is("DATA on a reserved unit", a.number, 11);
+    is("breaks rule 2", a.place, 2);
+    is("is not carried out", sumbilak_carry_write(image, IMAGE2, 0, 5120, plan, 160, 10).number, 11);
+    is("the image stays", (uint64_t)memcmp(image, other, IMAGE2), 0);
+    plan[3 * 16 + 12] = plan[4] = 19;
+    is("the last unit", sumbilak_check_write(image, IMAGE2, 0, 5120, plan, 160).number, 0);
+
+    /* a named map with unit 2: map 0, which chunk 2 names, has its first unit at byte 40 */
+    other[40] = R - 1;
+    a = sumbilak_load(other, IMAGE2, loaded, SUMBILAK_LOAD_WORDS);
+    is("a map with a reserved unit", a.number, 5);
+    is("of chunk 2", a.place, 2);
+    is("and no R", a.value, 0);
+    is("nor a shape's", sumbilak_shape(other, IMAGE2).r, 0);
+    memset(other, 0, 8); /* chunk 0 names map 0 too */
+    a = sumbilak_load(other, IMAGE2, loaded, SUMBILAK_LOAD_WORDS);
+    is("5 before 6", a.number, 5);
+    is("of chunk 0", a.place, 0);
+    a = sumbilak_repair(other, IMAGE2, list, sizeof list);
+    is("repair", a.number, 0);
+    is("unlinks both", a.value, 2);
+    is("chunk 0", list[0], 0);
+    is("and chunk 2", list[4], 2);
+    is("a dead map may hold unit 2", sumbilak_report(other, IMAGE2).free, N - R);
+    is("R stays", sumbilak_shape(other, IMAGE2).r, R);
+
+    /* chunk 2 holds units 3 and 4; 15 are left */
+    write_in(image, IMAGE2, 0, 16384, 0);
+    write_in(image, IMAGE2, 1, 16384, 0);
+    write_in(image, IMAGE2, 3, 16384, 0);
+    is("chunk 3 on units 13 to 16", units_in(image, IMAGE2, 3), 0x0D0E0F10);
+    a = sumbilak_plan_write(image, IMAGE2, 2, 16384, plan, sizeof plan);
+    is("four units of three", a.number, 9);
+    is("three are free", a.place, 3);
+    is("three units of three", write_in(image, IMAGE2, 2, 12288, 0), 11);
+    is("units 17 to 19", units_in(image, IMAGE2, 2), 0x111213);
+    is("units 3 and 4 are free", sumbilak_load(image, IMAGE2, loaded, SUMBILAK_LOAD_WORDS).number == 0 ? loaded[4] : 0, 0x18);
+
+    /* 10 units for 3 chunks of 2: with R = 2, N-R is (C+1)*P, and there is always room for a write; with R = 3 it is one less */
+    for (uint64_t reserved = 2; reserved <= 3; reserved++) {
+        uint8_t three[SUMBILAK_IMAGE2_BYTES(2, 3, 5)];
+        is("format", sumbilak_format2(three, sizeof three, 2, 3, 5, 10, reserved).number, 0);
+        for (uint64_t chunk = 0; chunk < 3; chunk++)
+            write_in(three, sizeof three, chunk, 8192, 0);
+        a = sumbilak_plan_write(three, sizeof three, 1, 8192, plan, sizeof plan);
+        is("room by N-R", a.number, reserved == 2 ? 0 : 9);
+        is("the last free unit", a.place, reserved == 2 ? 0 : 1);
+    }
+
+    memset(image + 264, 0xFF, 4);
+    is("R 4294967295", sumbilak_shape(image, IMAGE2).number, 3);
+    memset(image + 264, 0, 8);
+    image[264] = 17;
+    is("R 17", sumbilak_shape(image, IMAGE2).number, 3);
+    is("and no repair", sumbilak_repair(image, IMAGE2, list, sizeof list).number, 3);
+    image[264] = 5;
+    is("R 5, and chunk 2 on 17 to 19", sumbilak_held(image, IMAGE2, 2).number, 0);
+    image[264] = 6;
+    is("R 6, and chunk 0 on 5", sumbilak_held(image, IMAGE2, 2).number, 5);
+
+    sumbilak_format(old, IMAGE, P, C, M, N);
+    write_chunk(old, 2, 6144, 0);
+    is("edition 1 reserves none", sumbilak_load(old, IMAGE, loaded, SUMBILAK_LOAD_WORDS).value, 0);
+    is("nor does its shape", sumbilak_shape(old, IMAGE).r, 0);
+    sumbilak_plan_discard(old, IMAGE, 2, plan, sizeof plan);
+    is("discard", sumbilak_carry_discard(old, IMAGE, 2, plan, 32, 2).number, 0);
+    is("all units are free", sumbilak_report(old, IMAGE).free, N);
+    is("converted", sumbilak_convert(old, IMAGE, other, IMAGE2).number, 0);
+    is("none reserved", sumbilak_shape(other, IMAGE2).r, 0);
+    is("all units free", sumbilak_report(other, IMAGE2).free, N);
+}
+
 static void limits(void)
 {
     uint8_t *image = malloc(SUMBILAK_MAX_IMAGE2_BYTES + 8);
@@ -266,6 +418,20 @@ static void limits(void)
     is("loads", sumbilak_alarm_count(image, SUMBILAK_MAX_IMAGE2_BYTES, 4609).value, 1);
     is("36 steps", write_in(image, SUMBILAK_MAX_IMAGE2_BYTES, 255, 65536, 0), SUMBILAK_MAX_WRITE2_STEPS);
     is("65,536 bytes", sumbilak_stored_size(image, SUMBILAK_MAX_IMAGE2_BYTES, 255).value, 65536);
+    static const uint64_t reserved[] = {1, 63, 64, 65, 127, 128, 4592};
+    for (size_t i = 0; i < sizeof reserved / sizeof reserved[0]; i++) {
+        uint64_t r = reserved[i], loaded[SUMBILAK_LOAD_WORDS], below = 0;
+        is("reserved", sumbilak_format2(image, SUMBILAK_MAX_IMAGE2_BYTES, 16, 256, 288, 4608, r).number, 0);
+        is("R", sumbilak_load(image, SUMBILAK_MAX_IMAGE2_BYTES, loaded, SUMBILAK_LOAD_WORDS).value, r);
+        for (uint64_t u = 0; u < r; u++)
+            below += loaded[4 + u / 64] >> u % 64 & 1;
+        is("no reserved unit is free", below, 0);
+        is("unit R is", loaded[4 + r / 64] >> r % 64 & 1, 1);
+        is("all others are", sumbilak_report(image, SUMBILAK_MAX_IMAGE2_BYTES).free, 4608 - r);
+        is("36 steps", write_in(image, SUMBILAK_MAX_IMAGE2_BYTES, 0, 65536, 0), SUMBILAK_MAX_WRITE2_STEPS);
+        is("16 are held", sumbilak_report(image, SUMBILAK_MAX_IMAGE2_BYTES).free, 4592 - r);
+    }
+    is("4,593 reserved", sumbilak_format2(image, SUMBILAK_MAX_IMAGE2_BYTES, 16, 256, 288, 4608, 4593).number, 3);
     free(image);
 }
 
@@ -297,6 +463,7 @@ int main(void)
     worked_cases();
     repairs();
     edition_2();
+    reserved_units();
     limits();
     empty_slices();
     printf("C interface: %d of %d as documents 01 and 02 have them\n", asked - failed, asked);

@@ -58,7 +58,7 @@ module _ (s : List ℕ) (l : Loaded) (e : l ≡ loaded s) (out : List ℕ) (a : 
     pub load-small : length out < loadWords → a ≡ refused (Small 648) → Leaves out
     load-small b ea = rw (← e) (ea ∙ rw (h, lt-ltb (length out) loadWords b), rw (h, lt-ltb (length out) loadWords b))
 
-    pub load-done : loadWords ≤ length out → a ≡ given 0 0 → (after : List ℕ) → after ≡ sets out 0 (wordsOf l) → Leaves after
+    pub load-done : loadWords ≤ length out → a ≡ given (l .shape .r) 0 → (after : List ℕ) → after ≡ sets out 0 (wordsOf l) → Leaves after
     load-done b ea after w =
         let n = length-words s l e h in
         let front = sets-front out (wordsOf l) (omega arith) ∙ ap (λ (k : ℕ). wordsOf l ++ drop k out) n in

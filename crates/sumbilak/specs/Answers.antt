@@ -115,7 +115,7 @@ verdictAnswer (Unsound r) = refused r
 abbrev pub reportedAnswer : Reported → ReportAnswer
 reportedAnswer a = reportNumbers (verdictAnswer (a .verdict)) (a .report)
 
--- shape: the edition and P, C, M, N beside the number, and R, which is 0; of a refusal the shape is all 0 already
+-- shape: the edition and P, C, M, N and R beside the number; of a refusal the shape is all 0 already
 abbrev pub shapeNumbers : Answer → Shape → ShapeAnswer
 shapeNumbers a g = record {
   number = a .number;
@@ -126,7 +126,7 @@ shapeNumbers a g = record {
   c = g .c;
   m = g .m;
   n = g .n;
-  r = 0;
+  r = g .r;
 }
 
 abbrev pub shapeAnswer : Loaded → ShapeAnswer

@@ -24,13 +24,13 @@ shapeWords g = g .p ∷ g .c ∷ g .m ∷ g .n ∷ []
 abbrev pub wordsOf : Loaded → List ℕ
 wordsOf l = shapeWords (l .shape) ++ (l .units ++ l .maps)
 
--- 10 "lent output too short", with the "bytes needed", after the image's own refusals
-abbrev pub loadingAnswer : Verdict → ℕ → Answer
-loadingAnswer Passed room = cond (ltb room loadWords) (refused (Small (8 * loadWords))) (given 0 0)
-loadingAnswer (Refused r) room = refused r
+-- 10 "lent output too short", with the "bytes needed", after the image's own refusals; otherwise the value is R, the reserved units: "load answers it"
+abbrev pub loadingAnswer : Verdict → ℕ → ℕ → Answer
+loadingAnswer Passed reserved room = cond (ltb room loadWords) (refused (Small (8 * loadWords))) (given reserved 0)
+loadingAnswer (Refused r) reserved room = refused r
 
 abbrev pub loadAnswer : List ℕ → ℕ → Answer
-loadAnswer s room = loadingAnswer (loaded s .verdict) room
+loadAnswer s room = loadingAnswer (loaded s .verdict) (loaded s .shape .r) room
 
 -- "A refusal changes nothing lent ..; an answer changes nothing past what it writes."
 abbrev pub loadingOut : Verdict → Loaded → List ℕ → List ℕ

@@ -158,7 +158,6 @@ fn verdict(x: Verdict) -> Answer
     }
 }
 
-// No unit is reserved yet: R is 0.
 pub(crate) fn shape(x: Loaded) -> ShapeAnswer
     ensures { λ a. ⌜ a ≡ Answers.shapeAnswer x ⌝ }
 {
@@ -174,7 +173,7 @@ pub(crate) fn shape(x: Loaded) -> ShapeAnswer
         c: g.c as u64,
         m: g.m as u64,
         n: g.n as u64,
-        r: 0,
+        r: g.r as u64,
     }
 }
 

@@ -8,7 +8,7 @@ use report::Level;
 use steps::Request;
 ghost use mathlib.Core.Path.{_≡_};
 ghost use lib.ListN.{length};
-ghost use Rattle.layout.specs.Format.{formatAnswer, formatImage, format2Answer, format2Image};
+ghost use Rattle.layout.specs.Format.{formatAnswer, formatImage};
 ghost use Rattle.layout.specs.Layout.{edition1, edition2};
 ghost use Rattle.image.specs.Loading.{loaded};
 ghost use Rattle.access.specs.Ranges.{splitAnswer, splitOut, accessAnswer};
@@ -42,8 +42,8 @@ pub extern "C" fn sumbilak_format2(
     n: u64,
     r: u64,
 ) -> Answer
-    ensures { λ x. ⌜ x ≡ formattedAnswer (format2Answer (edition2 p c m n) r (now (image .entry))) ⌝ }
-    ensures { λ x. ⌜ now (image .exit) ≡ format2Image (edition2 p c m n) r (now (image .entry)) ⌝ }
+    ensures { λ x. ⌜ x ≡ formattedAnswer (formatAnswer (edition2 p c m n r) (now (image .entry))) ⌝ }
+    ensures { λ x. ⌜ now (image .exit) ≡ formatImage (edition2 p c m n r) (now (image .entry)) ⌝ }
 {
     let x = layout::format::format2(image, p, c, m, n, r);
     answers::formatted(x)

@@ -60,7 +60,7 @@ fn put_loaded(out: &mut [u64], l: Loaded)
     put_words(out, MAPS_AT, &maps);
 }
 
-// Loads an image into a lent output of at least 81 words.
+// Loads an image into a lent output of at least 81 words, and answers how many units are reserved.
 pub(crate) fn load(image: &[u8], out: &mut [u64]) -> Answer
     ensures { λ r. ⌜ r ≡ loadAnswer (now (image .entry)) (length (now (out .entry))) ⌝ }
     ensures { λ r. ⌜ now (out .exit) ≡ loadOut (now (image .entry)) (now (out .entry)) ⌝ }
@@ -73,8 +73,9 @@ pub(crate) fn load(image: &[u8], out: &mut [u64]) -> Answer
             if out.len() < LOAD_WORDS {
                 return refused(Refusal::Small(LOAD_BYTES));
             }
+            let g = l.shape;
             put_loaded(out, l);
-            given(0, 0)
+            given(g.r as u64, 0)
         }
     }
 }

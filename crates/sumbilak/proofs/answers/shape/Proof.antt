@@ -24,10 +24,13 @@ cast-t8 c = search needs
 cast-t9 : tie.Need-cast-t9
 cast-t9 c = search needs
 
+cast-t10 : tie.Need-cast-t10
+cast-t10 c = search needs
+
 returns : tie.Need-returns
 returns c =
-    let told = c .before .before .before .before .before .before in
+    let told = c .before .before .before .before .before .before .before in
     ap (λ (a : Answer). shapeNumbers a (told .before .args .x .shape)) (told .verdict .ensures)
 
 pub shape-spec : {M : Type 1} → statement M
-shape-spec = tie.close (tie.spec verdict-requires cast-t5 cast-t6 cast-t7 cast-t8 cast-t9 returns)
+shape-spec = tie.close (tie.spec verdict-requires cast-t5 cast-t6 cast-t7 cast-t8 cast-t9 cast-t10 returns)

@@ -28,6 +28,9 @@ returns c =
 put-loaded-requires : tie.Need-put-loaded-requires
 put-loaded-requires c κs = search needs
 
+cast-given : tie.Need-cast-given
+cast-given c = search needs
+
 given-requires : tie.Need-given-requires
 given-requires c κs = search needs
 
@@ -41,8 +44,11 @@ same-length c = search needs
 
 returns-3 : tie.Need-returns-3
 returns-3 c =
-    let a = c .before .before .before .before .before .before .before .before .before .before .before .args in
-    load-done (now (a .image)) (c .before .before .before .before .before .before .before .before .load .result) (c .before .before .before .before .before .before .before .before .load .ensures) (now (a .out)) _ (c .before .before .before .before .before .before .enum-told .given .1) (c .before .before .before .before .before .if1 .left) (c .given .ensures) _ (c .before .before .before .put-loaded .ensures)
+    let tested = c .before .before .before .before .before .before .before in
+    let l = tested .before .before .before .load in
+    let a = tested .before .before .before .before .before .before .args in
+    let left = load-done (now (a .image)) (l .result) (l .ensures) (now (a .out)) _ (tested .before .enum-told .given .1) (tested .if1 .left) in
+    left (c .given .ensures) _ (c .before .before .before .before .put-loaded .ensures)
 
 pub load-spec : {M : Type 1} → statement M
 load-spec =
@@ -55,6 +61,7 @@ load-spec =
     refused-requires-2
     returns
     put-loaded-requires
+    cast-given
     given-requires
     returns-2
     same-length
