@@ -2,13 +2,13 @@
 use host::Outcome;
 use host::Word;
 use host::making::make_file;
+use layout::ADDED_BYTES;
 use layout::FIRST_EDITION;
 use layout::Formatted;
 use layout::MAX_CHUNK_UNITS;
 use layout::MAX_CHUNKS;
 use layout::MAX_IMAGE_BYTES;
 use layout::MAX_MAPS;
-use layout::SPARE_BYTES;
 use layout::TRAILER_BYTES;
 use layout::format::format;
 use layout::format::format2;
@@ -23,8 +23,8 @@ pub(crate) fn image_length(edition: u32, p: u64, c: u64, m: u64) -> usize
     requires { ⌜ (firstEdition ≤ edition) × (edition ≤ lastEdition) ⌝ }
     ensures { λ r. ⌜ r ≤ maxImageBytes ⌝ }
     ensures { λ r. ⌜
-        ((n : ℕ) → withinLimits (record { edition = edition; p = p; c = c; m = m; n = n }) ≡ true
-        → r ≡ imageBytes (record { edition = edition; p = p; c = c; m = m; n = n }))
+        ((n reserved : ℕ) → withinLimits (record { edition = edition; p = p; c = c; m = m; n = n; r = reserved }) ≡ true
+        → r ≡ imageBytes (record { edition = edition; p = p; c = c; m = m; n = n; r = reserved }))
         ⌝ }
 {
     if p > MAX_CHUNK_UNITS as u64 {
@@ -38,7 +38,7 @@ pub(crate) fn image_length(edition: u32, p: u64, c: u64, m: u64) -> usize
     }
     let head = (edition - FIRST_EDITION) as usize;
     let map_words = head + p as usize;
-    8 * c as usize + 8 * (m as usize * map_words) + (TRAILER_BYTES + SPARE_BYTES * head)
+    8 * c as usize + 8 * (m as usize * map_words) + (TRAILER_BYTES + ADDED_BYTES * head)
 }
 
 // Formats the lent room in an edition; the first has no reserved units.

@@ -7,25 +7,30 @@ use host::saying::labelled;
 use host::saying::number;
 use host::saying::text;
 use image::Verdict;
+use layout::FIRST_EDITION;
 use layout::MAX_IMAGE_BYTES;
 use layout::Refusal;
+use layout::Shape;
+use layout::Trailer;
+use layout::trailers::check_trailer;
 use report::Alarm;
 use report::Level;
 use report::Report;
 use report::alarms::alarm;
 use report::reports::report;
 ghost use mathlib.Core.Path.{_≡_};
+ghost use Prim.Native.Nat.{_<_, _^_};
 ghost use Rattle.report.specs.Alarms.{alarmAnswer};
 ghost use Rattle.views.specs.Alarms.{alarmOutcome};
 ghost use Rattle.views.specs.Ratios.{tenThousandths};
 
-// A count's share of itself and a rest, in ten-thousandths, to the nearest one, a half upwards. The report's own ratios are f64, and exact to 53 bits; to
-// print one takes a further product, which rounds again and falls below the half in one of forty halves. So the digits come from the exact counts, of which
-// the ratios are the quotients: N is held and free units, mapped chunks times P is saved and held ones. Of nothing the share is 0.
-fn ten_thousandths(count: u32, rest: u32) -> u64
-    ensures { λ r. ⌜ r ≡ tenThousandths count rest ⌝ }
+// A count's share of all, in ten-thousandths, to the nearest one, a half upwards. The report's own ratios are f64, and exact to 53 bits; to print one takes a
+// further product, which rounds again and falls below the half in one of forty halves. So the digits come from the exact counts, of which the ratios are the
+// quotients: held by N, and saved by mapped chunks times P, which is saved and held units together. Of nothing the share is 0.
+fn ten_thousandths(count: u32, all: u64) -> u64
+    requires { ⌜ all < 2 ^ 33 ⌝ }
+    ensures { λ r. ⌜ r ≡ tenThousandths count all ⌝ }
 {
-    let all = count as u64 + rest as u64;
     if all == 0 {
         return 0;
     }
@@ -47,13 +52,23 @@ fn count_line(label: &[u8], n: u32) {
     text(b"\n");
 }
 
-fn ratio_line(label: &[u8], count: u32, rest: u32) {
+fn ratio_line(label: &[u8], count: u32, all: u64)
+    requires { ⌜ all < 2 ^ 33 ⌝ }
+{
     text(label);
-    ratio(ten_thousandths(count, rest));
+    ratio(ten_thousandths(count, all));
     text(b"\n");
 }
 
-fn report_lines(r: Report) {
+// The reserved units, which edition 1 does not have.
+fn reserved_line(g: Shape) {
+    if g.edition != FIRST_EDITION {
+        count_line(b"reserved ", g.r);
+    }
+}
+
+fn report_lines(g: Shape, r: Report) {
+    let n = g.n;
     let mapped = r.mapped;
     let held = r.held;
     let free = r.free;
@@ -61,9 +76,22 @@ fn report_lines(r: Report) {
     count_line(b"mapped ", mapped);
     count_line(b"held ", held);
     count_line(b"free ", free);
+    reserved_line(g);
     count_line(b"saved ", saved);
-    ratio_line(b"held-ratio ", held, free);
-    ratio_line(b"saved-ratio ", saved, held);
+    ratio_line(b"held-ratio ", held, n as u64);
+    ratio_line(b"saved-ratio ", saved, saved as u64 + held as u64);
+}
+
+// The report, with what the trailer says besides.
+fn report_shape(image: &[u8], r: Report) -> Outcome {
+    let t = check_trailer(image);
+    match t {
+        Trailer::Fits(g) => {
+            report_lines(g, r);
+            Outcome::Answered(Word::Reported)
+        }
+        Trailer::Refused(x) => Outcome::Refused(x),
+    }
 }
 
 fn report_image(image: &[u8]) -> Outcome {
@@ -72,8 +100,7 @@ fn report_image(image: &[u8]) -> Outcome {
     match v {
         Verdict::Passed => {
             let r = answer.report;
-            report_lines(r);
-            Outcome::Answered(Word::Reported)
+            report_shape(image, r)
         }
         Verdict::Refused(r) => Outcome::Refused(r),
     }

@@ -16,19 +16,19 @@ cast-if1 : tie.Need-cast-if1
 cast-if1 c = search needs
 
 returns : tie.Need-returns
-returns c = (omega arith, λ n h. absurd (omega (arith, limits _ h, c .if1 .taken)))
+returns c = (omega arith, λ n k h. absurd (omega (arith, limits _ h, c .if1 .taken)))
 
 cast-if2 : tie.Need-cast-if2
 cast-if2 c = search needs
 
 returns-2 : tie.Need-returns-2
-returns-2 c = (omega arith, λ n h. absurd (omega (arith, limits _ h, c .if2 .taken)))
+returns-2 c = (omega arith, λ n k h. absurd (omega (arith, limits _ h, c .if2 .taken)))
 
 cast-if3 : tie.Need-cast-if3
 cast-if3 c = search needs
 
 returns-3 : tie.Need-returns-3
-returns-3 c = (omega arith, λ n h. absurd (omega (arith, limits _ h, c .if3 .taken)))
+returns-3 c = (omega arith, λ n k h. absurd (omega (arith, limits _ h, c .if3 .taken)))
 
 sub-head : tie.Need-sub-head
 sub-head c = search needs
@@ -72,7 +72,7 @@ returns-4 : tie.Need-returns-4
 returns-4 c =
     let a = c .before .before .before .args in (
       omega (arith, product (a .edition) (a .p) (a .m) (c .before .before .before .pre .1) (c .before .before .if1 .left) (c .if3 .left)),
-      λ n h. rw (map-words (record { edition = a .edition; p = a .p; c = a .c; m = a .m; n = n })),
+      λ n k h. rw (map-words (record { edition = a .edition; p = a .p; c = a .c; m = a .m; n = n; r = k })),
     )
 
 pub image-length-spec : {M : Type 1} → statement M

@@ -5,9 +5,6 @@ use borrow.Author.Needs.{needs}
 use Rattle.views.proofs.space.ten_thousandths.Statement.{statement}
 use Rattle.views.proofs.space.ten_thousandths.Tie as tie
 
-add-all : tie.Need-add-all
-add-all c = search needs
-
 returns : tie.Need-returns
 unfolding tenThousandths
 returns c = rw (eq-eqb _ _ (c .if1 .taken))
@@ -30,4 +27,4 @@ returns-2 c = rw (ne-eqb _ _ (c .if1 .left))
 
 pub ten-thousandths-spec : {M : Type 1} → statement M
 ten-thousandths-spec =
-    tie.close (tie.spec add-all returns mul-result add-result mul-result-2 div-result returns-2)
+    tie.close (tie.spec returns mul-result add-result mul-result-2 div-result returns-2)
