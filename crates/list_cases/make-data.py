@@ -13,7 +13,7 @@ TRAILER_BYTES = {1: 32, 2: 40}
 HERE = os.path.dirname(os.path.abspath(__file__))
 
 
-# ---- the image of document 01, and edition 2 of request 4 in document 02, read
+# ---- the image of document 01, and edition 2 of requests 4 and 5 in document 02, read
 
 def listing(image):
     """The lines that document 01 wants for the bytes of a file."""
@@ -34,7 +34,8 @@ def listing(image):
         named.add(k)
         held.update(units)
         lines.append(f'chunk {chunk} map {k} units ' + ' '.join(map(str, units)))
-    return lines + [f'free-units {n - len(held)}', f'free-maps {m - len(named)}', 's SOUND']
+    free = set(range(reserved(image), n)) - held
+    return lines + [f'free-units {len(free)}', f'free-maps {m - len(named)}', 's SOUND']
 
 
 def edition(image):
@@ -53,6 +54,11 @@ def fields(image):
 
 def shape(image):
     return fields(image)[:4]
+
+
+def reserved(image):
+    """How many of the first units are reserved, R: none in edition 1."""
+    return fields(image)[7] if edition(image) == 2 else 0
 
 
 def words_of(image):
@@ -84,13 +90,15 @@ def first_refusal(image):
         return 3
     maps_back = 8 * m * map_words(p, version)
     length = 8 * c + maps_back + TRAILER_BYTES[version]
-    if fields(image)[4:] != (8 * c + maps_back, maps_back, length) + (0, 0) * (version - 1) or len(image) != length:
+    if fields(image)[4:7] != (8 * c + maps_back, maps_back, length) or len(image) != length:
+        return 3
+    if version == 2 and (reserved(image) > n - p or fields(image)[8] != 0):
         return 3
     links, maps = words_of(image)
     if any(k != X and k >= m for k in links):
         return 4
     named = [k for k in links if k != X]
-    if not all(good_map(maps[k], p, n) for k in named):
+    if not all(good_map(maps[k], p, range(reserved(image), n)) for k in named):
         return 5
     units = [u for k in named for u in units_of(maps[k], p)]
     if len(set(named)) < len(named) or len(set(units)) < len(units):
@@ -98,11 +106,11 @@ def first_refusal(image):
     return 0
 
 
-def good_map(words, p, n):
-    """1 to P units below N, then only X; a size before them takes as many units."""
+def good_map(words, p, usable):
+    """1 to P of the usable units, R to N-1, then only X; a size before them takes as many units."""
     size, units = words[:-p], words[-p:]
     held = 0
-    while held < p and units[held] < n:
+    while held < p and units[held] in usable:
         held += 1
     return held >= 1 and all(w == X for w in units[held:]) and all((s + 4095) // 4096 == held for s in size)
 
@@ -114,9 +122,9 @@ def trailer(p, c, m, n, edition=1, **other):
     maps_back = 8 * m * map_words(p, edition)
     field = dict(tag=b'RMAP', version=edition, p=p, c=c, m=m, n=n, links_back=8 * c + maps_back, maps_back=maps_back)
     field['length'] = 8 * c + maps_back + TRAILER_BYTES[edition]
-    field['spare'] = field['last_spare'] = 0
+    field['reserved'] = field['last_number'] = 0
     field.update(other)
-    order = ['version', 'p', 'c', 'm', 'n', 'links_back', 'maps_back', 'length'] + ['spare', 'last_spare'] * (edition - 1)
+    order = ['version', 'p', 'c', 'm', 'n', 'links_back', 'maps_back', 'length'] + ['reserved', 'last_number'] * (edition - 1)
     return field['tag'] + struct.pack('<HHIIIIII' + 'II' * (edition - 1), *(field[f] for f in order))
 
 
@@ -160,8 +168,10 @@ def sized(size, units=(0, 1)):
     return small_2({0: 0}, {0: [size, *units]})
 
 
-def raw_2(p, c, m):
-    return image_2(p, c, m, p * m, {i: i for i in range(c)}, {i: [4096 * p, *range(p * i, p * i + p)] for i in range(c)})
+def raw_2(p, c, m, reserved=0):
+    """Every chunk mapped and stored raw, from the first unit that is not reserved on."""
+    maps = {i: [4096 * p, *range(reserved + p * i, reserved + p * i + p)] for i in range(c)}
+    return image_2(p, c, m, p * m, {i: i for i in range(c)}, maps, trailer_2(p, c, m, p * m, reserved=reserved))
 
 
 THIRD = small({0: 2, 2: 0}, {0: [0, 1], 1: [2], 2: [3, 4]})
@@ -278,7 +288,7 @@ CASES = {
     'e2-1-behind': THIRD_2 + trailer(4, 4, 5, 20),
     'e2-1-behind-of-its-length': THIRD_2 + trailer(4, 4, 5, 20, length=304),
     'e2-behind-1': THIRD + trailer_2(4, 4, 5, 20),
-    # 3 GEOMETRY by a distance, a length or a spare word
+    # 3 GEOMETRY by a distance, a length or the last number
     'e2-links-back': small_2({}, {}, links_back=192),
     'e2-maps-back': small_2({}, {}, maps_back=160),
     'e2-length-field': small_2({}, {}, length=264),
@@ -287,10 +297,8 @@ CASES = {
     'e2-slack-in-length': bytes(8) + small_2({}, {}, length=280),
     'e2-first-byte-lost': THIRD_2[1:],
     'e2-last-byte-lost': THIRD_2[:-1],
-    'e2-spare': small_2({}, {}, spare=1),
-    'e2-spare-high': small_2({}, {}, spare=2**31),
-    'e2-last-spare': small_2({}, {}, last_spare=1),
-    'e2-last-spare-high': small_2({}, {}, last_spare=2**31),
+    'e2-last-number': small_2({}, {}, last_number=1),
+    'e2-last-number-high': small_2({}, {}, last_number=2**31),
     'e2-bytes-41257': b'\xff' + LARGEST_2,
     'foreign-41256': bytes(41256),
     'foreign-41257': bytes(41257),
@@ -320,6 +328,48 @@ CASES = {
     'e2-unit-in-two-maps': small_2({0: 0, 2: 1}, {0: [8192, 0, 1], 1: [8191, 2, 1]}),
     'e2-unit-twice-in-a-map': small_2({1: 0}, {0: [12288, 5, 6, 5]}),
     'e2-map-twice-last': image_2(2, 256, 257, 514, {0: 0, 255: 0}, {0: [8192, 0, 1]}),
+    # reserved units, R up to N-P, sound: fresh, after the third write, full, with unit R held, and with reserved units in dead maps
+    'r-fresh': small_2({}, {}, reserved=3),
+    'r-volume': small_2({0: 2, 2: 0}, {0: [6144, 3, 4], 1: [3072, 5], 2: [5120, 6, 7]}, reserved=3),
+    'r-1': small_2({}, {}, reserved=1),
+    'r-n-less-p': small_2({}, {}, reserved=16),
+    'r-n-less-p-full': small_2({3: 4}, {4: [16384, 19, 16, 18, 17]}, reserved=16),
+    'r-unit-r': small_2({0: 2, 2: 0}, {0: [6144, 3, 4], 2: [5120, 19, 5]}, reserved=3),
+    'r-full': small_2({i: i for i in range(4)}, {k: [16384, *range(4 * k + 4, 4 * k + 8)] for k in range(4)}, reserved=4),
+    'r-dead-maps': small_2({2: 0}, {0: [6144, 3, 4], 1: [3072, 0], 3: [8192, 1, 2], 4: [X, 2, 2, 0, X]}, reserved=3),
+    'r-size-below-r': small_2({0: 0}, {0: [2, 7]}, reserved=3),
+    'r-largest': raw_2(16, 256, 288, 512),
+    'r-64-unit-64': image_2(16, 8, 9, 144, {7: 8}, {8: [1, 64]}, trailer_2(16, 8, 9, 144, reserved=64)),
+    'r-65-unit-65': image_2(16, 8, 9, 144, {7: 8}, {8: [1, 65]}, trailer_2(16, 8, 9, 144, reserved=65)),
+    # 3 GEOMETRY by R
+    'r-n-less-p-and-1': small_2({}, {}, reserved=17),
+    'r-n': small_2({}, {}, reserved=20),
+    'r-high': small_2({}, {}, reserved=2**31),
+    'r-high-and-3': small_2({}, {}, reserved=2**31 + 3),
+    'r-32-bits-of-x': small_2({}, {}, reserved=2**32 - 1),
+    'r-and-last-number': small_2({}, {}, reserved=3, last_number=1),
+    'r-1-of-n-p': image_2(4, 4, 5, 4, end=trailer_2(4, 4, 5, 4, reserved=1)),
+    'r-n-below-p': image_2(4, 4, 5, 3, end=trailer_2(4, 4, 5, 3, reserved=1)),
+    'r-n-below-p-high': image_2(4, 4, 5, 3, end=trailer_2(4, 4, 5, 3, reserved=2**32 - 1)),
+    'r-n-0': image_2(4, 4, 5, 0, end=trailer_2(4, 4, 5, 0, reserved=2**32 - 4)),
+    'r-before-bad-map': small_2({0: 0}, {0: [1, 0]}, reserved=17),
+    # 5 BAD MAP by a reserved unit, after any 4 and before any 6
+    'r-unit-r-less-1': small_2({0: 2, 2: 0}, {0: [6144, 3, 4], 2: [5120, 5, 2]}, reserved=3),
+    'r-unit-0': small_2({1: 0}, {0: [4096, 0]}, reserved=1),
+    'r-unit-first': small_2({1: 0}, {0: [8192, 2, 3]}, reserved=3),
+    'r-unit-last': small_2({1: 0}, {0: [16384, 3, 4, 5, 0]}, reserved=3),
+    'r-unit-r-and-2-32': small_2({1: 0}, {0: [4096, 2**32 + 3]}, reserved=3),
+    'r-unit-between': small_2({1: 0}, {0: [12288, 3, 1, 4]}, reserved=3),
+    'r-unit-n-less-p': small_2({3: 4}, {4: [16384, 15, 16, 17, 18]}, reserved=16),
+    'r-unit-and-shared': small_2({0: 0, 1: 1, 3: 0}, {0: [8192, 2, 3], 1: [4096, 4]}, reserved=3),
+    'r-unit-in-two-maps': small_2({0: 0, 1: 1}, {0: [8192, 3, 2], 1: [8192, 4, 2]}, reserved=3),
+    'r-unit-after-shared': small_2({0: 0, 1: 0, 2: 1}, {0: [8192, 3, 4], 1: [1, 1]}, reserved=3),
+    'r-link-after-unit': small_2({0: 0, 3: 5}, {0: [1, 0]}, reserved=3),
+    'r-64-unit-63': image_2(16, 8, 9, 144, {7: 8}, {8: [1, 63]}, trailer_2(16, 8, 9, 144, reserved=64)),
+    'r-65-unit-64': image_2(16, 8, 9, 144, {7: 8}, {8: [1, 64]}, trailer_2(16, 8, 9, 144, reserved=65)),
+    # 6 SHARED
+    'r-shared': small_2({0: 0, 3: 0}, {0: [8192, 3, 4]}, reserved=3),
+    'r-unit-shared': small_2({0: 0, 1: 1}, {0: [8192, 3, 4], 1: [8192, 5, 3]}, reserved=3),
 }
 
 # arguments that name no file: a missing one, the folder itself, an empty name

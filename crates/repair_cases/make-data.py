@@ -1,7 +1,7 @@
 #!/usr/bin/env python3
 """Makes the stored run of repair_cases: the images in data/, their names in args, and what is to be printed in stdout.
 
-Which chunks are to be unlinked stands with each case, by hand from request 3 of document 02. `repaired` is this script's own reading of the request, on the
+Which chunks are to be unlinked stands with each case, by hand from requests 3 to 5 of document 02. `repaired` is this script's own reading of them, on the
 bytes alone, and must say the same; what the listing is to say afterwards is list_cases' reading of the bytes that it leaves. The program is held to them,
 and not the other way round. Nothing needs this script but a change of the cases. It writes beside itself: python3 make-data.py
 """
@@ -13,7 +13,7 @@ HERE = os.path.dirname(os.path.abspath(__file__))
 LISTS = runpy.run_path(os.path.join(HERE, '..', 'list_cases', 'make-data.py'))
 X, NO_FILE, THIRD = LISTS['X'], LISTS['NO_FILE'], LISTS['THIRD']
 image, small, trailer = LISTS['image'], LISTS['small'], LISTS['trailer']
-image_2, small_2 = LISTS['image_2'], LISTS['small_2']
+image_2, small_2, trailer_2 = LISTS['image_2'], LISTS['small_2'], LISTS['trailer_2']
 
 
 # ---- request 3, read
@@ -26,7 +26,8 @@ def repaired(content):
     p, c, m, n = LISTS['shape'](content)
     links, maps = LISTS['words_of'](content)
     named = {chunk: k for chunk, k in enumerate(links) if k != X}
-    good = {chunk: k for chunk, k in named.items() if k < m and LISTS['good_map'](maps[k], p, n)}
+    usable = range(LISTS['reserved'](content), n)
+    good = {chunk: k for chunk, k in named.items() if k < m and LISTS['good_map'](maps[k], p, usable)}
     units = {chunk: LISTS['units_of'](maps[k], p) for chunk, k in good.items()}
     unlinked = set(named) - set(good)
     for chunk in good:
@@ -144,12 +145,32 @@ CASES = {
     'e2-largest-ring': (list(range(256)), RING_2),
     # refused
     'e2-tag': (2, small_2({0: 9}, {}, tag=b'RMAQ')),
-    'e2-spare': (3, small_2({0: 9}, {}, spare=1)),
+    'e2-last-number': (3, small_2({0: 9}, {}, last_number=1)),
     'e2-bytes-41257': (3, b'\xff' + RING_2),
+    # reserved units, sound: the third write's volume, dead maps with reserved units, and unit R
+    'r-sound': ([], LISTS['CASES']['r-volume']),
+    'r-dead-maps': ([], LISTS['CASES']['r-dead-maps']),
+    'r-unit-r': ([], LISTS['CASES']['r-unit-r']),
+    # a map with a reserved unit is bad
+    'r-unit-0': ([1], small_2({0: 1, 1: 0}, {0: [4096, 0], 1: [4096, 1]}, reserved=1)),
+    'r-unit-r-less-1': ([0], small_2({0: 2, 2: 0}, {0: [6144, 3, 4], 2: [5120, 5, 2]}, reserved=3)),
+    'r-unit-n-less-p': ([3], small_2({0: 0, 3: 4}, {0: [4096, 19], 4: [8192, 16, 15]}, reserved=16)),
+    'r-units-all': ([0, 1, 2, 3], small_2({i: i for i in range(4)}, {k: [4096, k] for k in range(4)}, reserved=4)),
+    # what such a map names counts for nobody, and every chunk that names it is unlinked
+    'r-unit-of-two': ([0, 3], small_2({0: 0, 1: 1, 3: 0}, {0: [8192, 2, 3], 1: [4096, 3]}, reserved=3)),
+    'r-unit-in-two-maps': ([0, 1], small_2({0: 0, 1: 1, 2: 2}, {0: [8192, 3, 2], 1: [8192, 4, 2], 2: [8192, 3, 4]}, reserved=3)),
+    'r-unit-twice': ([2], small_2({0: 0, 2: 1}, {0: [4096, 3], 1: [12288, 3, 1, 3]}, reserved=3)),
+    # 0 has a reserved unit, 1 and 2 share a unit, and 3 is kept
+    'r-volume': ([0, 1, 2], small_2({i: i for i in range(4)}, {0: [8192, 0, 7], 1: [4096, 4], 2: [8192, 4, 5], 3: [4096, 7]}, reserved=3)),
+    'r-64-unit-63': ([7], image_2(16, 8, 9, 144, {0: 0, 7: 8}, {0: [1, 64], 8: [1, 63]}, trailer_2(16, 8, 9, 144, reserved=64))),
+    # refused
+    'r-n-less-p-and-1': (3, small_2({0: 9}, {}, reserved=17)),
+    'r-high': (3, small_2({0: 9}, {}, reserved=2**31)),
+    'r-n-below-p': (3, image_2(4, 4, 5, 3, {0: 9}, end=trailer_2(4, 4, 5, 3, reserved=2**32 - 1))),
 }
 
 # a second repair of each prints nothing
-AGAIN = ['volume', 'several-faults', 'unit-chain', 'largest-ring', 'e2-volume', 'e2-largest-ring']
+AGAIN = ['volume', 'several-faults', 'unit-chain', 'largest-ring', 'e2-volume', 'e2-largest-ring', 'r-volume']
 
 
 def said(answer):
