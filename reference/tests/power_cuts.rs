@@ -5,16 +5,20 @@
 //! simulator's own, from 01. After every event the image found has to load
 //! and to be sound, no unit has two owners, every chunk holds what the ledger
 //! gives it and answers the size of the write that gave it, and the chunk in
-//! flight holds all its new pieces or all its old ones.
+//! flight holds all its new pieces or all its old ones. Units that are reserved
+//! hold the boot loader's content from the start to the end.
 //!
 //! Lists of events are random on many volumes and exhaustive on small ones, in
-//! both editions, and start from format, from a repair or from a conversion.
-//! Rules that are wrong on purpose show that the simulator can fail.
+//! both editions, in edition 2 with and without reserved units, and start from
+//! format, from a repair or from a conversion. Rules that are wrong on purpose
+//! show that the simulator can fail.
 //!
 //! `SUMBILAK_LISTS` runs so many times as many random lists, `SUMBILAK_SEED`
 //! changes their seed, `SUMBILAK_STORIES` prints the lists that wrong rules
 //! were noticed in. A build with debug assertions runs less.
 
+#[path = "power_cuts/beginnings.rs"]
+mod beginnings;
 #[path = "power_cuts/converted.rs"]
 mod converted;
 #[path = "power_cuts/event.rs"]
@@ -85,13 +89,26 @@ const fn two(p: u64, c: u64, m: u64, n: u64) -> Shape {
     shape(p, c, m, n).in_edition(Edition::Two)
 }
 
+/// The same geometry with this many units reserved, or fewer: they are put
+/// before its own as far as P·M allows, and P are left.
+fn with_reserved(shape: Shape, r: u64) -> Shape {
+    let n = (shape.n + r).min(shape.p * shape.m);
+    let shape = Shape { n, ..shape };
+    shape.reserving(r.min(shape.most_reserved()))
+}
+
+/// What a volume is called by its edition and reserved units.
+fn kind(shape: &Shape) -> String {
+    match (shape.edition, shape.r) {
+        (Edition::One, _) => String::new(),
+        (Edition::Two, 0) => ", edition 2".to_string(),
+        (Edition::Two, r) => format!(", edition 2, R={r}"),
+    }
+}
+
 fn name(shape: &Shape) -> String {
     let Shape { p, c, m, n, .. } = shape;
-    let edition = match shape.edition {
-        Edition::One => "",
-        Edition::Two => ", edition 2",
-    };
-    format!("P={p} C={c} M={m} N={n}{edition}")
+    format!("P={p} C={c} M={m} N={n}{}", kind(shape))
 }
 
 /// Every violation counts.
@@ -125,11 +142,17 @@ const VOLUMES: [(Shape, u64); 22] = [
     (shape(16, 256, 288, 4608), 40),
 ];
 
-/// The same in both editions, in edition 2 with half as many lists.
+/// The same in both editions, in edition 2 with half as many lists, for the most
+/// part with reserved units: one, three, as many as a chunk has, or more than
+/// a word of the free set has bits.
 fn volumes() -> impl Iterator<Item = (Shape, u64)> {
-    VOLUMES.into_iter().flat_map(|(shape, lists)| {
-        let half = lists.div_ceil(2);
-        [(shape, lists), (shape.in_edition(Edition::Two), half)]
+    (0..).zip(VOLUMES).flat_map(|(at, (shape, lists))| {
+        let reserved = [1, 70, 3, shape.p][at % 4];
+        [
+            (shape, lists),
+            (shape.in_edition(Edition::Two), lists.div_ceil(5)),
+            (with_reserved(shape, reserved), lists.div_ceil(3)),
+        ]
     })
 }
 
@@ -210,6 +233,8 @@ fn random_event_lists() {
     assert_eq!(all.hands[Hand::Damaged(0).index()][0], 0, "damaged plans");
     let mutated = all.hands[Hand::Mutated.index()];
     assert!(mutated.iter().all(|&count| count > 0), "mutated plans");
+    let [accepted, refused, _] = all.hands[Hand::Reserved.index()];
+    assert!(accepted == 0 && refused > 100, "plans on reserved units");
     assert!(all.cut_linked > 100 && all.cut_partial > 100);
 }
 
@@ -237,7 +262,7 @@ const fn lists_to(length: usize, shape: Shape) -> Scope {
 }
 
 /// The volumes that are explored, and how far.
-const SCOPES: [Scope; 31] = [
+const SCOPES: [Scope; 40] = [
     lists_to(3, shape(2, 1, 2, 2)),
     lists_to(3, shape(2, 1, 2, 3)),
     lists_to(3, shape(2, 1, 2, 4)),
@@ -257,6 +282,20 @@ const SCOPES: [Scope; 31] = [
         plans: Plans::Edits,
         depth: Some(1),
     },
+    Scope {
+        shape: VOLUME_64K.reserving(3),
+        start: Start::Format(&WORKED_THROUGH),
+        plans: Plans::Edits,
+        depth: Some(1),
+    },
+    lists_to(3, two(2, 1, 2, 3).reserving(1)),
+    lists_to(2, two(2, 2, 3, 6).reserving(2)),
+    closure(two(2, 1, 2, 3).reserving(1), Plans::Edits),
+    closure(two(2, 1, 2, 3).reserving(1), Plans::EveryChoice),
+    closure(two(2, 1, 2, 4).reserving(2), Plans::Edits),
+    closure(two(2, 1, 2, 4).reserving(1), Plans::EveryChoice),
+    closure(two(2, 2, 3, 3).reserving(1), Plans::Two),
+    closure(two(2, 1, 3, 5).reserving(3), Plans::Two),
     lists_to(3, two(2, 1, 2, 2)),
     lists_to(2, two(2, 2, 3, 4)),
     lists_to(2, two(3, 1, 2, 4)),
@@ -354,26 +393,28 @@ fn orders(steps: &[Fields]) -> Vec<Vec<Fields>> {
 }
 
 /// The legal plans of exactly so many steps on the smallest volume, for a
-/// write of 4,096 bytes or a discard of chunk 0. Mapped, it is on unit 0 and
-/// map 0. In edition 2, where plans are longer, only those with this end.
+/// write of 4,096 bytes or a discard of chunk 0. Mapped, it is on the first unit
+/// that is not reserved and map 0. In edition 2, where plans are longer, only
+/// those with this end.
 ///
 /// A write takes six steps at least, in edition 2 seven, and with so many there
 /// is room for no more fences: DATA and the MAP steps in any order, FENCE, LINK,
 /// FENCE. A discard has fences before and after LINK, at least one after.
 fn legal_plans(
-    edition: Edition,
+    shape: &Shape,
     write: bool,
     mapped: bool,
     length: usize,
     end: &[Fields],
 ) -> BTreeSet<Vec<u8>> {
     let mut legal = BTreeSet::new();
-    let size_words = edition.number() as u32 - 1;
+    let size_words = shape.size_words() as u32;
     if write && length == 6 + size_words as usize {
+        let first = shape.r as u32;
         let free = if mapped { 1..2 } else { 0..2 };
         for (unit, map) in free
             .clone()
-            .flat_map(|unit| free.clone().map(move |map| (unit, map)))
+            .flat_map(|unit| free.clone().map(move |map| (first + unit, map)))
         {
             let mut stores = vec![[DATA, unit, 0, 0]];
             stores.extend((0..size_words).map(|word| [MAP, map, word, 4096]));
@@ -401,26 +442,33 @@ fn legal_plans(
 /// Of all plans that a few steps can make on the smallest volume the checker
 /// accepts exactly the legal ones. All plans of six steps are 64 million and
 /// only tried where more lists are asked for; else those that end in FENCE. In
-/// edition 2 plans of four steps are tried before FENCE, LINK, FENCE.
+/// edition 2, with and without a reserved unit, plans of four steps are tried
+/// before FENCE, LINK, FENCE.
 #[test]
 fn of_every_short_plan_only_the_legal_ones_pass() {
     let begun = Instant::now();
     let mut rows = vec![row("plans", &["steps", "tried", "accepted", "legal"])];
     let mut all_good = true;
-    for edition in Edition::ALL {
-        all_good &= every_short_plan(edition, &mut rows);
+    // Two units each that are not reserved.
+    let smallest = shape(2, 1, 2, 2);
+    for shape in [
+        smallest,
+        smallest.in_edition(Edition::Two),
+        with_reserved(smallest, 1),
+    ] {
+        all_good &= every_short_plan(shape, &mut rows);
     }
     let title = format!("Every plan of a few steps, {:.1?}", begun.elapsed());
     print(&table(&title, &rows));
     assert!(all_good, "the checker accepts exactly the legal plans");
 }
 
-fn every_short_plan(edition: Edition, rows: &mut Vec<Vec<String>>) -> bool {
-    let shape = shape(2, 1, 2, 2).in_edition(edition);
+fn every_short_plan(shape: Shape, rows: &mut Vec<Vec<String>>) -> bool {
+    let edition = shape.edition;
     let fresh = Volume::formatted(&shape, || 0).image;
     let mut mapped = fresh.clone();
     put_entry(&mut mapped, 0, 0);
-    put_units(&shape, &mut mapped, 0, &[0]);
+    put_units(&shape, &mut mapped, 0, &[shape.r]);
 
     let most = match edition {
         Edition::Two => 3,
@@ -442,7 +490,7 @@ fn every_short_plan(edition: Edition, rows: &mut Vec<Vec<String>>) -> bool {
             }
             for (length, end) in runs {
                 let steps = length + end.len();
-                let legal = legal_plans(edition, size.is_some(), is_mapped, steps, end);
+                let legal = legal_plans(&shape, size.is_some(), is_mapped, steps, end);
                 let (tried, accepted) = every_plan::accepted(&shape, image, request, length, end);
                 all_good &= accepted == legal;
                 let name = format!(
@@ -454,10 +502,7 @@ fn every_short_plan(edition: Edition, rows: &mut Vec<Vec<String>>) -> bool {
                         1 => ", FENCE last",
                         _ => ", FENCE, LINK, FENCE last",
                     },
-                    match edition {
-                        Edition::One => "",
-                        Edition::Two => ", edition 2",
-                    },
+                    kind(&shape),
                 );
                 let figures = [
                     steps as u64,
@@ -481,13 +526,12 @@ const CHANCES: u64 = 3000;
 /// Runs random lists under a wrong rule until a violation that `tells` picks is
 /// seen. The right rules pass the same lists.
 fn notice_at_random<R: Rules>(
-    edition: Edition,
+    shape: Shape,
     rule: &str,
     rules: &R,
     tells: &dyn Fn(&Violation) -> bool,
 ) -> (Figures, Case) {
     let mut figures = Figures::default();
-    let shape = VOLUME_64K.in_edition(edition);
     let case = lists::run(rules, shape, CHANCES, seed(), tells, &mut figures);
     let case = case.unwrap_or_else(|| panic!("{rule}: not noticed"));
     let control = &mut Figures::default();
@@ -507,6 +551,13 @@ fn notice<R: Rules>(rule: &str, rules: &R, violations: &[&str]) {
 
 /// The same in this edition.
 fn notice_in<R: Rules>(edition: Edition, rule: &str, rules: &R, violations: &[&str]) {
+    let shapes = [VOLUME_64K, shape(2, 2, 3, 4)].map(|shape| shape.in_edition(edition));
+    notice_on(shapes, rule, rules, violations);
+}
+
+/// The same on these volumes, the second one exhaustively.
+fn notice_on<R: Rules>(shapes: [Shape; 2], rule: &str, rules: &R, violations: &[&str]) {
+    let [shape, small] = shapes;
     let mut rows = vec![row(
         "violation",
         &[
@@ -521,8 +572,8 @@ fn notice_in<R: Rules>(edition: Edition, rule: &str, rules: &R, violations: &[&s
     for &violation in violations {
         let tells = |seen: &Violation| seen.name() == violation;
         let rule = format!("{rule}, {violation}");
-        let (figures, case) = notice_at_random(edition, &rule, rules, &tells);
-        let scope = closure(shape(2, 2, 3, 4).in_edition(edition), Plans::Edits);
+        let (figures, case) = notice_at_random(shape, &rule, rules, &tells);
+        let scope = closure(small, Plans::Edits);
         let (tally, found) = explore(rules, &scope, &tells);
         let found = found.unwrap_or_else(|| panic!("{rule}: not noticed exhaustively"));
         rows.push(row(
@@ -537,11 +588,7 @@ fn notice_in<R: Rules>(edition: Edition, rule: &str, rules: &R, violations: &[&s
         ));
         stories += &format!("\n{case}\n{found}");
     }
-    let edition = match edition {
-        Edition::One => "",
-        Edition::Two => ", edition 2",
-    };
-    print(&table(&format!("Noticed: {rule}{edition}"), &rows));
+    print(&table(&format!("Noticed: {rule}{}", kind(&shape)), &rows));
     if env::var_os("SUMBILAK_STORIES").is_some() {
         print(&stories);
     }
@@ -556,6 +603,10 @@ const TWO_OWNERS: &str = "unit with two owners";
 const CARRIER: &str = "carrying out";
 const SIZE: &str = "another stored size";
 const SIZE_FLAW: &str = "a size of other units";
+const TRAILER: &str = "trailer changed";
+const OVERWRITTEN: &str = "reserved unit overwritten";
+const ON_RESERVED: &str = "a chunk on a reserved unit";
+const RESERVED_DATA: &str = "reserved unit planned";
 
 /// "LINK before the fence: a cut shows a map that isn't there." (01)
 #[test]
@@ -598,8 +649,52 @@ fn word_0_taken_for_a_unit_is_caught() {
     // A size that is below N by chance, which small volumes' requests never are.
     for violation in ["free set", "planner"] {
         let tells = |seen: &Violation| seen.name() == violation;
-        notice_at_random(Edition::Two, violation, &wrong::SizeAsUnit, &tells);
+        let shape = VOLUME_64K.in_edition(Edition::Two);
+        notice_at_random(shape, violation, &wrong::SizeAsUnit, &tells);
     }
+}
+
+/// Two volumes of edition 2 with reserved units.
+const WITH_RESERVED: [Shape; 2] = [VOLUME_64K.reserving(3), two(2, 2, 3, 4).reserving(2)];
+
+/// "Units below R are never free and never held" (02, request 5): a checker that
+/// takes them for free lets the boot loader be written over, and what loads no
+/// more be linked.
+#[test]
+fn a_checker_that_takes_reserved_units_for_free_is_caught() {
+    let rules = wrong::Checker(wrong::with_reserved_units_free);
+    let kinds = [RESERVED_DATA, OVERWRITTEN, ON_RESERVED, LOAD];
+    let rule = "reserved units free to the checker";
+    notice_on(WITH_RESERVED, rule, &rules, &kinds);
+}
+
+/// The same of a loader and a planner; then the library's checker lets no such
+/// plan pass.
+#[test]
+fn a_planner_that_takes_reserved_units_for_free_is_caught() {
+    let rules = wrong::ReservedFree {
+        checker_agrees: true,
+    };
+    let kinds = [
+        "free set",
+        "planner",
+        RESERVED_DATA,
+        OVERWRITTEN,
+        ON_RESERVED,
+    ];
+    notice_on(WITH_RESERVED, "reserved units free", &rules, &kinds);
+
+    let rules = wrong::ReservedFree {
+        checker_agrees: false,
+    };
+    let harm = |seen: &Violation| {
+        let kinds = [RESERVED_DATA, OVERWRITTEN, ON_RESERVED, LOAD, LEDGER];
+        kinds.contains(&seen.name())
+    };
+    let mut figures = Figures::default();
+    let case = lists::run(&rules, WITH_RESERVED[0], 100, seed(), &harm, &mut figures);
+    assert!(case.is_none(), "the right checker refuses");
+    assert!(figures.hands[Hand::Planner.index()][1] > 0, "and has to");
 }
 
 /// "No last FENCE": a plan is finished, and yet its LINK has not landed.
@@ -672,7 +767,7 @@ fn a_free_set_from_all_maps_is_caught() {
     );
     let no_room =
         |seen: &Violation| matches!(seen, Violation::Planner { answer, .. } if answer.number == 9);
-    notice_at_random(Edition::One, "no room", &wrong::AllMaps, &no_room);
+    notice_at_random(VOLUME_64K, "no room", &wrong::AllMaps, &no_room);
 }
 
 /// "On a double claim, letting the later chunk win." (01)
@@ -736,7 +831,7 @@ fn words_that_land_by_half_are_caught() {
 /// landed, that is byte for byte what carrying out n steps leaves" (01).
 #[test]
 fn words_stored_one_place_too_far_are_caught() {
-    let kinds = ["trailer changed", "not as carried out", LOAD];
+    let kinds = [TRAILER, "not as carried out", LOAD];
     notice("words one place too far", &wrong::WordsTooFar, &kinds);
 }
 
@@ -769,5 +864,5 @@ fn wrong_carriers_are_caught() {
     );
     let changed = |seen: &Violation| *seen == Violation::RefusedChanged;
     let rules = &wrong::Carrier::StoresFirst;
-    notice_at_random(Edition::One, "refused", rules, &changed);
+    notice_at_random(VOLUME_64K, "refused", rules, &changed);
 }

@@ -258,11 +258,11 @@ fn write(image: &mut [u8], chunk: u64, k: u64) {
 /// A volume with so many units held: chunks in random order with at least half
 /// their units, then rewritten at random, so that units and maps lie about.
 fn volume(rng: &mut Rng, shape: &Shape, held: u64) -> Vec<u8> {
-    let Shape { p, c, m, n, .. } = *shape;
+    let Shape { p, c, m, n, r, .. } = *shape;
     let mut image = vec![0; shape.image_len()];
     let formatted = match shape.edition {
         Edition::One => ffi::format(&mut image, p, c, m, n),
-        Edition::Two => ffi::format2(&mut image, p, c, m, n, 0),
+        Edition::Two => ffi::format2(&mut image, p, c, m, n, r),
     };
     assert_eq!(formatted.number, 0);
     let mut chunks: Vec<u64> = (0..c).collect();

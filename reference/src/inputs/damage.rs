@@ -13,6 +13,22 @@ fn mapped_chunk(rng: &mut Rng, shape: &Shape, image: &mut [u8]) -> u64 {
     chunk
 }
 
+/// A number that is no unit: at and past N, what a 32-bit reading would take for
+/// one or for X, or, where there are such, a reserved unit.
+fn no_unit(rng: &mut Rng, shape: &Shape, unit: u64) -> u64 {
+    if shape.r > 0 && rng.chance(40) {
+        return reserved_unit(rng, shape);
+    }
+    match rng.below(6) {
+        0 => shape.n,
+        1 => shape.n + 1,
+        2 => TWO_32 - 1,
+        3 => X - 1,
+        4 => TWO_32 + unit,
+        _ => rng.between(shape.n, X - 1),
+    }
+}
+
 /// Maps a chunk to a free map with one or two units.
 fn map_anew(rng: &mut Rng, shape: &Shape, image: &mut [u8], chunk: u64) {
     put_entry(image, chunk, X);
@@ -20,7 +36,7 @@ fn map_anew(rng: &mut Rng, shape: &Shape, image: &mut [u8], chunk: u64) {
     let units = free_units(shape, image);
     put_entry(image, chunk, map);
     let held: Vec<u64> = (0..rng.between(1, 2))
-        .map(|_| rng.pick_any(&units).unwrap_or(0))
+        .map(|_| rng.pick_any(&units).unwrap_or(shape.r))
         .collect();
     let size = size_of(rng, held.len() as u64);
     put_map(shape, image, map, size, &held);
@@ -59,6 +75,7 @@ pub fn damage(rng: &mut Rng, shape: &Shape, image: &mut Vec<u8>, row: u64) {
                 put_entry(image, chunk, link);
             }
         }
+        5 if rng.chance(15) => trespass(rng, shape, image),
         5 => {
             for _ in 0..rng.pick(&[1, 1, 2, 3]) {
                 break_map(rng, shape, image);
@@ -180,12 +197,19 @@ fn break_geometry(rng: &mut Rng, shape: &Shape, image: &mut Vec<u8>) {
     }
     let Shape { p, c, m, n, .. } = *shape;
     let trailer = shape.trailer_len();
-    match rng.below(24) {
-        // Edition 2's last two numbers are not 0.
-        18..=20 if shape.edition == Edition::Two => {
-            let which = rng.pick(&[6, 6, 7, 7]);
+    match rng.below(26) {
+        // Edition 2's last number is not 0.
+        18 | 19 if shape.edition == Edition::Two => {
             let other = rng.pick(&[1, 2, p as u32, n as u32, 1 << 8, 1 << 16, 1 << 31, u32::MAX]);
-            put_field(shape, image, which, other);
+            put_field(shape, image, 7, other);
+        }
+        // The one before it, R, is past N-P.
+        20 | 24 | 25 if shape.edition == Edition::Two => {
+            let past = shape.most_reserved() as u32 + 1;
+            let far = [n as u32, p as u32 * m as u32 + 1, 1 << 31, u32::MAX];
+            let far = rng.pick(&far);
+            let other = rng.pick(&[past, past, past + 1, past + p as u32, far]);
+            put_field(shape, image, 6, other);
         }
         21 => both_tags(rng, shape, image),
         22 => change_edition(rng, shape, image),
@@ -207,6 +231,10 @@ fn break_geometry(rng: &mut Rng, shape: &Shape, image: &mut Vec<u8>) {
         3 | 4 => {
             let units = [p - 1, p * m + 1, 0, 0xFFFF_FFFF, n << 16, 4609];
             put_field(shape, image, 2, rng.pick(&units) as u32);
+            // N below P, with any R.
+            if shape.edition == Edition::Two && rng.chance(50) {
+                put_field(shape, image, 6, rng.pick(&[0, 1, 2, n as u32, u32::MAX]));
+            }
         }
         // A distance or the length, and the tables where they were.
         5..=9 => {
@@ -296,7 +324,7 @@ fn break_map(rng: &mut Rng, shape: &Shape, image: &mut [u8]) {
         return put_word(image, shape.word_at(map, 0), size);
     }
     let at = |at: u64| shape.unit_at(map, at);
-    let unit = rng.pick_any(&units).unwrap_or(0);
+    let unit = rng.pick_any(&units).unwrap_or(shape.r);
     match rng.below(8) {
         // Empty.
         0 => (0..shape.p).for_each(|word| put_word(image, at(word), X)),
@@ -310,19 +338,17 @@ fn break_map(rng: &mut Rng, shape: &Shape, image: &mut [u8]) {
         }
         // Junk after the units.
         2 if held < shape.p => {
-            let junk = rng.pick(&[shape.n, TWO_32 - 1, X - 1, TWO_32 + unit]);
+            let junk = no_unit(rng, shape, unit);
             put_word(image, at(rng.between(held, shape.p - 1)), junk);
+        }
+        // A reserved unit after them, with a size that counts it.
+        3 if held < shape.p && shape.r > 0 => {
+            put_word(image, at(held), reserved_unit(rng, shape));
+            put_word(image, shape.word_at(map, 0), size_of(rng, held + 1));
         }
         // No unit among them.
         _ => {
-            let junk = match rng.below(6) {
-                0 => shape.n,
-                1 => shape.n + 1,
-                2 => TWO_32 - 1,
-                3 => X - 1,
-                4 => TWO_32 + unit,
-                _ => rng.between(shape.n, X - 1),
-            };
+            let junk = no_unit(rng, shape, unit);
             put_word(image, at(rng.below(held.max(1))), junk);
         }
     }
@@ -369,8 +395,8 @@ fn share(rng: &mut Rng, shape: &Shape, image: &mut [u8]) {
 /// Several chunks on random maps, with units out of a handful: many clashes,
 /// of which row 6 must find the right one. Each map has a good form.
 fn tangle(rng: &mut Rng, shape: &Shape, image: &mut [u8]) {
-    let units = rng.between(1, 12).min(shape.n);
-    let first = rng.between(0, shape.n - units);
+    let units = rng.between(1, 12).min(shape.n - shape.r);
+    let first = rng.between(shape.r, shape.n - units);
     for _ in 0..rng.between(2, 8) {
         let chunk = rng.below(shape.c);
         let map = rng.below(shape.m);
@@ -404,8 +430,7 @@ fn borrow(rng: &mut Rng, shape: &Shape, image: &mut [u8]) {
     let last = shape.p - 1;
     let (first, second) = match rng.below(3) {
         0 => (X, unit),
-        1 => (unit, shape.n),
-        _ => (unit, rng.pick(&[X - 1, TWO_32 - 1, TWO_32 + unit])),
+        _ => (unit, no_unit(rng, shape, unit)),
     };
     if shape.edition == Edition::Two && rng.chance(50) {
         // Bad by its size alone.
@@ -415,6 +440,22 @@ fn borrow(rng: &mut Rng, shape: &Shape, image: &mut [u8]) {
     }
     put_word(image, shape.unit_at(map, 0), first);
     put_word(image, shape.unit_at(map, rng.between(1, last)), second);
+}
+
+/// A chunk with a reserved unit in the place of one of its own, or the same in
+/// two chunks; where none is reserved, a bad map.
+fn trespass(rng: &mut Rng, shape: &Shape, image: &mut [u8]) {
+    if shape.r == 0 {
+        return break_map(rng, shape, image);
+    }
+    let unit = reserved_unit(rng, shape);
+    for _ in 0..rng.pick(&[1, 2]) {
+        let chunk = mapped_chunk(rng, shape, image);
+        let map = entry(image, chunk);
+        let held = units_in(shape, image, map).len() as u64;
+        let at = rng.below(held.max(1));
+        put_word(image, shape.unit_at(map, at), unit);
+    }
 }
 
 /// A row of chunks, each with a unit of the one before it, and each good by
@@ -433,6 +474,26 @@ fn chain(rng: &mut Rng, shape: &Shape, image: &mut [u8]) {
             fit_size(rng, shape, image, map);
         }
     }
+}
+
+/// Another R within its limit. A unit that is held may be reserved by it: then
+/// every map with such a unit has a wrong form.
+fn reserve_others(rng: &mut Rng, shape: &Shape, image: &mut [u8]) {
+    if shape.edition == Edition::One {
+        return;
+    }
+    let held = mapped(shape, image)
+        .into_iter()
+        .flat_map(|chunk| units_in(shape, image, entry(image, chunk)));
+    let held: Vec<u64> = held.collect();
+    let r = match rng.below(4) {
+        0 => 0,
+        // One unit more than is good, or just as many as are.
+        1 => held.iter().min().map_or(shape.r, |lowest| lowest + 1),
+        2 => held.iter().min().map_or(shape.r, |lowest| *lowest),
+        _ => rng.between(0, shape.most_reserved()),
+    };
+    put_field(shape, image, 6, r.min(shape.most_reserved()) as u32);
 }
 
 /// Damage with no row in mind: flipped bytes, cuts, random bytes.
@@ -475,7 +536,8 @@ pub fn wild(rng: &mut Rng, image: &mut Vec<u8>) {
 pub fn image(rng: &mut Rng, base: &Base) -> Vec<u8> {
     let mut image = base.image.clone();
     match rng.below(100) {
-        0..=45 => {}
+        0..=43 => {}
+        44 | 45 => reserve_others(rng, &base.shape, &mut image),
         46..=49 => both_tags(rng, &base.shape, &mut image),
         50..=69 => {
             let row = rng.between(1, 6);
@@ -493,17 +555,18 @@ pub fn image(rng: &mut Rng, base: &Base) -> Vec<u8> {
     image
 }
 
-/// Faults in the tables, of one kind or of several: bad links, bad maps, and
-/// maps and units that are claimed twice. The trailer stays as it is.
+/// Faults in the tables, of one kind or of several: bad links, bad maps, reserved
+/// units, and maps and units that are claimed twice. The trailer stays as it is.
 pub fn tables_damaged(rng: &mut Rng, shape: &Shape, image: &mut Vec<u8>) {
     for _ in 0..rng.pick(&[1, 1, 1, 2, 3]) {
-        match rng.below(10) {
+        match rng.below(11) {
             0 | 1 => damage(rng, shape, image, 4),
             2 | 3 => damage(rng, shape, image, 5),
             4 | 5 => damage(rng, shape, image, 6),
             6 => borrow(rng, shape, image),
             7 => chain(rng, shape, image),
-            8 => (4..=6).for_each(|row| damage(rng, shape, image, row)),
+            8 => trespass(rng, shape, image),
+            9 => (4..=6).for_each(|row| damage(rng, shape, image, row)),
             _ => (4..=6).rev().for_each(|row| damage(rng, shape, image, row)),
         }
     }
@@ -516,6 +579,9 @@ pub fn damaged(rng: &mut Rng, base: &Base) -> Vec<u8> {
     }
     let mut image = base.image.clone();
     tables_damaged(rng, &base.shape, &mut image);
+    if rng.chance(4) {
+        reserve_others(rng, &base.shape, &mut image);
+    }
     // A short list buffer competes with a bad trailer as well.
     if rng.chance(10) {
         let row = rng.between(2, 3);

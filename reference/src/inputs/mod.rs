@@ -22,7 +22,7 @@ pub use plan::{
     assemble, decode, discard_plan, encode, mutate, plan, step_count, write_plan, Fields, FENCE,
 };
 pub use request::{chunk, count, fraction, good_size, range, room, size, size_of};
-pub use shape::{blank, fresh, past_a_limit, shape, Shape};
+pub use shape::{blank, fresh, past_a_limit, reserved_unit, shape, Shape};
 pub use volume::{
     entry, evolve, fill, free_maps, free_units, holding, litter, mapped, pool, populate, put_entry,
     put_map, put_units, put_word, scatter, size_in, sound, units_in, with_free, word, Base,

@@ -45,8 +45,8 @@ pub fn assemble(shape: &Shape, chunk: u64, size: u64, units: &[u64], map: u64) -
 }
 
 /// A good plan for a write of a good size, on units and a map that are free
-/// but otherwise any; if too few are free, held ones fill the gap and the plan
-/// is bad. It is made for the base's geometry in this edition.
+/// but otherwise any; if too few are free, held or reserved ones fill the gap
+/// and the plan is bad. It is made for the base's geometry in this edition.
 pub fn write_plan(
     rng: &mut Rng,
     base: &Base,
@@ -86,6 +86,7 @@ fn odd_field(rng: &mut Rng, shape: &Shape) -> u32 {
         shape.c,
         shape.m,
         shape.n,
+        shape.r.max(1),
         shape.chunk_bytes() + 1,
     ];
     match rng.below(6) {
@@ -170,6 +171,14 @@ pub fn mutate(rng: &mut Rng, base: &Base, chunk: u64, steps: &mut Vec<Fields>) {
         return mutate_size(rng, shape, steps);
     }
     let len = steps.len();
+    if shape.r > 0 && rng.chance(5) {
+        // A MAP word with a reserved unit, and DATA as it was.
+        let words = of_kind(steps, 2);
+        if let Some(at) = rng.pick_any(&words) {
+            steps[at][3] = reserved_unit(rng, shape) as u32;
+        }
+        return;
+    }
     match rng.below(25) {
         // Order.
         0 if len > 1 => {
@@ -223,8 +232,8 @@ pub fn mutate(rng: &mut Rng, base: &Base, chunk: u64, steps: &mut Vec<Fields>) {
             };
             steps[at][rng.pick(unused)] = rng.pick(&[1, X32, 1 << 16, 7]);
         }
-        // A unit of another chunk, of this chunk, or a free one, in DATA and
-        // in MAP alike.
+        // A unit of another chunk, of this chunk, a reserved or a free one, in
+        // DATA and in MAP alike.
         15 | 16 => {
             let data = of_kind(steps, 1);
             if let Some(at) = rng.pick_any(&data) {
@@ -270,13 +279,15 @@ pub fn mutate(rng: &mut Rng, base: &Base, chunk: u64, steps: &mut Vec<Fields>) {
         // One field at its own limit.
         19 | 20 if len > 0 => {
             let at = rng.index(len);
+            let reserved = shape.r.max(1);
             let limits: &[(usize, u64)] = match steps[at][0] {
-                1 => &[(1, shape.n), (2, shape.p)],
+                1 => &[(1, shape.n), (1, reserved), (2, shape.p)],
                 2 => &[
                     (1, shape.m),
                     (2, shape.p),
                     (2, shape.map_words()),
                     (3, shape.n),
+                    (3, reserved),
                 ],
                 3 => &[(1, shape.c), (3, shape.m)],
                 _ => &[(0, 5)],
@@ -306,14 +317,15 @@ pub fn mutate(rng: &mut Rng, base: &Base, chunk: u64, steps: &mut Vec<Fields>) {
 fn other_unit(rng: &mut Rng, base: &Base, chunk: u64) -> u64 {
     let shape = &base.shape;
     let own = chunk < shape.c && entry(&base.image, chunk) < shape.m;
-    match rng.below(3) {
+    match rng.below(4) {
+        3 if shape.r > 0 => reserved_unit(rng, shape),
         0 if own => {
             let units = units_in(shape, &base.image, entry(&base.image, chunk));
             rng.pick(&units)
         }
         1 => {
             let units = free_units(shape, &base.image);
-            rng.pick_any(&units).unwrap_or(0)
+            rng.pick_any(&units).unwrap_or(shape.r)
         }
         _ => rng.below(shape.n),
     }

@@ -136,7 +136,8 @@ pub fn count(rng: &mut Rng, shape: &Shape, free: u64) -> u64 {
         1 => free,
         2 => free.saturating_sub(1),
         3 => free + 1,
-        4 => shape.n,
+        // What is free would be more if reserved units were.
+        4 => rng.pick(&[shape.n, shape.n - shape.r, free + shape.r]),
         5 => TWO_32 + free,
         6 => u64::MAX,
         _ => rng.next_u64() >> rng.below(64),
@@ -144,11 +145,19 @@ pub fn count(rng: &mut Rng, shape: &Shape, free: u64) -> u64 {
 }
 
 /// An alarm level as a fraction: 01's limits, and products near the count of
-/// free units.
+/// free units, also with N-R for N or with the reserved units counted free.
 pub fn fraction(rng: &mut Rng, shape: &Shape, free: u64) -> f64 {
     let near = |free: u64| free as f64 / shape.n as f64;
     let step = |value: f64, by: i64| f64::from_bits(value.to_bits().wrapping_add_signed(by));
-    match rng.below(12) {
+    match rng.below(13) {
+        12 => {
+            let others = [
+                near((free + shape.r).min(shape.n)),
+                free as f64 / (shape.n - shape.r) as f64,
+            ];
+            let other = rng.pick(&others).max(f64::from_bits(4));
+            step(other, rng.pick(&[-2, -1, 0, 0]))
+        }
         0 => rng.pick(&[0.0, -0.0, 0.5, 0.75, 0.875, 1.0]),
         1 => rng.pick(&[f64::from_bits(1), f64::MIN_POSITIVE, step(1.0, -1)]),
         2 => rng.pick(&[

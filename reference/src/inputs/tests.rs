@@ -9,7 +9,7 @@ fn bases_are_sound_and_differ() {
     for _ in 0..300 {
         let base = sound(&mut rng);
         let loaded = model::load(&base.image).expect("sound");
-        assert_eq!(loaded.n, base.shape.n);
+        assert_eq!([loaded.n, loaded.r], [base.shape.n, base.shape.r]);
         full += usize::from(loaded.units == [0; 72]);
         let free = free_units(&base.shape, &base.image).len() as u32;
         let ones: u32 = loaded.units.iter().map(|word| word.count_ones()).sum();
@@ -59,10 +59,12 @@ fn shapes_and_images_agree_with_the_model() {
             c,
             m,
             n,
+            r,
         } = base.shape;
         let shape = model::shape(&base.image).expect("sound");
         assert_eq!(shape.edition, edition.number());
-        assert_eq!([shape.p, shape.c, shape.m, shape.n], [p, c, m, n]);
+        assert_eq!([shape.p, shape.c, shape.m], [p, c, m]);
+        assert_eq!([shape.n, shape.r], [n, r]);
         for chunk in 0..c {
             let size = model::stored_size(&base.image, chunk).expect("a good chunk");
             let map = entry(&base.image, chunk);
@@ -110,4 +112,31 @@ fn assembled_plans_on_free_units_pass() {
         assert_eq!(encode(&decode(&plan)), plan);
     }
     assert!(passed > 100);
+}
+
+#[test]
+fn reserved_units_come_up_in_every_way() {
+    let mut rng = Rng::new(9);
+    let mut seen = [0; 7];
+    for _ in 0..3000 {
+        let shape = shape(&mut rng);
+        let Shape { p, c, n, r, .. } = shape;
+        assert!(r + p <= n && (r == 0 || shape.edition == Edition::Two));
+        assert_eq!(shape.in_edition(Edition::One).r, 0);
+        let room = (c + 1) * p;
+        assert_eq!(shape.has_room(), n - r >= room);
+        let kinds = [
+            shape.edition == Edition::Two && r == 0,
+            (1..=3).contains(&r),
+            r > n / 2,
+            r > 0 && r == n - p,
+            r > 0 && n - r == room,
+            r > 0 && n - r == room - 1,
+            r >= 64,
+        ];
+        for (count, is) in seen.iter_mut().zip(kinds) {
+            *count += usize::from(is);
+        }
+    }
+    assert!(seen.into_iter().all(|count| count > 40), "{seen:?}");
 }

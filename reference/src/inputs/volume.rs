@@ -38,7 +38,7 @@ pub fn free_maps(shape: &Shape, image: &[u8]) -> Vec<u64> {
 pub fn units_in(shape: &Shape, image: &[u8], map: u64) -> Vec<u64> {
     (0..shape.p)
         .map(|at| word(image, shape.unit_at(map, at)))
-        .take_while(|&unit| unit < shape.n)
+        .take_while(|&unit| shape.is_unit(unit))
         .collect()
 }
 
@@ -63,7 +63,7 @@ pub fn put_units(shape: &Shape, image: &mut [u8], map: u64, units: &[u64]) {
     put_map(shape, image, map, units.len() as u64 * UNIT, units);
 }
 
-/// The units that no named map holds.
+/// The units that no named map holds and that are not reserved.
 pub fn free_units(shape: &Shape, image: &[u8]) -> Vec<u64> {
     let mut free = vec![true; shape.n as usize];
     for chunk in mapped(shape, image) {
@@ -71,12 +71,13 @@ pub fn free_units(shape: &Shape, image: &[u8]) -> Vec<u64> {
             free[unit as usize] = false;
         }
     }
-    (0..shape.n).filter(|&unit| free[unit as usize]).collect()
+    let units = shape.units();
+    units.filter(|&unit| free[unit as usize]).collect()
 }
 
 /// A volume that holds all units but the free ones, by as few maps as can be.
 pub fn with_free(shape: &Shape, free: impl Fn(u64) -> bool) -> Vec<u8> {
-    let units: Vec<u64> = (0..shape.n).filter(|&unit| !free(unit)).collect();
+    let units: Vec<u64> = shape.units().filter(|&unit| !free(unit)).collect();
     let maps: Vec<u64> = (0..(units.len() as u64).div_ceil(shape.p)).collect();
     holding(shape, &units, &maps)
 }
@@ -142,7 +143,7 @@ pub fn fill(rng: &mut Rng, shape: &Shape, image: &mut [u8]) {
 /// Maps random chunks to random maps and units, in an order that no planner
 /// would choose. The image must be fresh.
 pub fn scatter(rng: &mut Rng, shape: &Shape, image: &mut [u8]) {
-    let mut units: Vec<u64> = (0..shape.n).collect();
+    let mut units: Vec<u64> = shape.units().collect();
     let mut maps: Vec<u64> = (0..shape.m).collect();
     rng.shuffle(&mut units);
     rng.shuffle(&mut maps);
@@ -159,15 +160,16 @@ pub fn scatter(rng: &mut Rng, shape: &Shape, image: &mut [u8]) {
 }
 
 /// Fills free maps with anything: "A map that no chunk names may hold
-/// anything" (01).
+/// anything" (01), reserved units too.
 pub fn litter(rng: &mut Rng, shape: &Shape, image: &mut [u8]) {
     for map in free_maps(shape, image) {
         for at in 0..shape.map_words() {
-            let junk = match rng.below(6) {
+            let junk = match rng.below(7) {
                 0 => X,
                 1 => shape.n,
                 2 => TWO_32 - 1,
                 3 => rng.next_u64(),
+                4 => rng.below(shape.r.max(1)),
                 _ => rng.below(shape.n),
             };
             put_word(image, shape.word_at(map, at), junk);
@@ -233,7 +235,8 @@ pub fn sound(rng: &mut Rng) -> Base {
 
 /// A pool of sound images, to draw cases from: every corner of the limits with
 /// every content in both editions, the largest images among them, then any up
-/// to `count`.
+/// to `count`. Where units can be reserved, there are also as many as can be,
+/// and one.
 pub fn pool(rng: &mut Rng, count: usize) -> Vec<Base> {
     let mut pool = Vec::new();
     for (p, c) in [(2, 1), (2, 256), (16, 1), (16, 256)] {
@@ -246,8 +249,12 @@ pub fn pool(rng: &mut Rng, count: usize) -> Vec<Base> {
                     Content::Worn,
                     Content::Scattered,
                 ];
-                for edition in Edition::ALL {
-                    let shape = Shape::one(p, c, m, n).in_edition(edition);
+                let one = Shape::one(p, c, m, n);
+                let mut shapes = vec![one, one.in_edition(Edition::Two)];
+                if n > p {
+                    shapes.extend([1, n - p].map(|r| one.reserving(r)));
+                }
+                for shape in shapes {
                     pool.extend(contents.map(|content| populate(rng, shape, content)));
                 }
             }

@@ -1,5 +1,7 @@
 //! Fixed-size bit sets, one bit a unit or map.
 
+use core::ops::Range;
+
 /// "bit u mod 64 of word u/64 is 1 if unit u is free, all else 0" (01).
 #[derive(Clone, Debug, PartialEq, Eq)]
 pub(crate) struct BitSet<const WORDS: usize> {
@@ -11,13 +13,18 @@ impl<const WORDS: usize> BitSet<WORDS> {
         BitSet { words: [0; WORDS] }
     }
 
-    /// The set of all numbers below `count`; the bits from there on are 0
-    /// (Decision 7).
-    pub fn first(count: usize) -> Self {
+    /// The set of these numbers; the bits below them and from their end on are
+    /// 0 (Decisions 7 and 75).
+    pub fn of(numbers: Range<usize>) -> Self {
+        let Range { start, end } = numbers;
         let mut set = BitSet::empty();
-        set.words[..count / 64].fill(u64::MAX);
-        if !count.is_multiple_of(64) {
-            set.words[count / 64] = (1 << (count % 64)) - 1;
+        set.words[..end / 64].fill(u64::MAX);
+        if !end.is_multiple_of(64) {
+            set.words[end / 64] = (1 << (end % 64)) - 1;
+        }
+        set.words[..start / 64].fill(0);
+        if !start.is_multiple_of(64) {
+            set.words[start / 64] &= u64::MAX << (start % 64);
         }
         set
     }
@@ -78,18 +85,21 @@ mod tests {
     use super::*;
 
     #[test]
-    fn first_counts_and_iterates() {
-        for count in [0, 1, 63, 64, 65, 127, 128, 191, 192] {
-            let set = BitSet::<3>::first(count);
-            assert_eq!(set.count(), count as u64);
-            assert!(set.iter().eq(0..count));
-            assert!((0..192).all(|bit| set.contains(bit) == (bit < count)));
+    fn a_range_counts_and_iterates() {
+        for end in 0..=192 {
+            for start in 0..=end {
+                let set = BitSet::<3>::of(start..end);
+                assert_eq!(set.count(), (end - start) as u64);
+                assert!(set.iter().eq(start..end));
+                let numbers = start..end;
+                assert!((0..192).all(|bit| set.contains(bit) == numbers.contains(&bit)));
+            }
         }
     }
 
     #[test]
     fn remove_tells_what_was_there() {
-        let mut set = BitSet::<2>::first(70);
+        let mut set = BitSet::<2>::of(0..70);
         assert!(set.remove(65));
         assert!(!set.remove(65));
         assert!(!set.contains(65));

@@ -18,6 +18,8 @@ pub fn convert(image: &[u8], out: &mut [u8]) -> Answer<u64> {
         return Err(Refusal::plain(FOREIGN));
     }
     let volume = Volume::open(image)?;
+    // "the converter writes 0" for R (02, request 5), which edition 1 behaves
+    // as.
     let geometry = Geometry {
         edition: Edition::Two,
         ..volume.geometry

@@ -1,5 +1,6 @@
 //! Report and alarm.
 
+use super::geometry::Geometry;
 use super::image::Volume;
 use super::refusals::BAD_ALARM;
 use super::{Answer, Refusal};
@@ -23,16 +24,18 @@ pub struct Report {
 /// "Saved units must be counted over mapped chunks only: mapped chunks times
 /// P, less held units. The ratio's divisor becomes mapped times P, and the
 /// ratio is 0.0 when nothing is mapped. This corrects 01's report section."
-/// (02, request 1) 01 counted over all C chunks. "Held/N stays."
+/// (02, request 1) 01 counted over all C chunks. "Held/N stays.", reserved
+/// units among its N (Decision 77).
 pub fn report(image: &[u8]) -> Answer<Report> {
     let volume = Volume::open(image)?;
-    let n = volume.geometry.n as u64;
+    let Geometry { p, n, .. } = volume.geometry;
     let mapped = volume.mapped_chunks();
     let free = volume.free_units.count();
-    // The free units are some of the N.
-    let held = n - free;
+    // A unit that is not free is held; a reserved one is neither, so that both
+    // together are N-R (Decision 77).
+    let held = volume.geometry.units().len() as u64 - free;
     // What the mapped chunks would hold if all were stored raw.
-    let raw = mapped * volume.geometry.p as u64;
+    let raw = mapped * p as u64;
     // "Held units are those in named maps" (01). A mapped chunk names one map
     // and a map has P words, so there are at most mapped·P of them.
     let saved = raw - held;
@@ -52,8 +55,8 @@ pub fn report(image: &[u8]) -> Answer<Report> {
     })
 }
 
-/// "It sounds when free units are below the count" (01). Any count is a good
-/// level (Decision 17).
+/// "It sounds when free units are below the count" (01), reserved units not
+/// among them. Any count is a good level (Decision 17).
 pub fn alarm_count(image: &[u8], units: u64) -> Answer<bool> {
     let volume = Volume::open(image)?;
     Ok(volume.free_units.count() < units)
@@ -61,7 +64,8 @@ pub fn alarm_count(image: &[u8], units: u64) -> Answer<bool> {
 
 /// It sounds when free units are "below the one rounded product fraction times
 /// N"; row 12: "fraction not a number, below 0 or above 1" (01). -0.0 is good
-/// and never sounds (Decision 17).
+/// and never sounds (Decision 17). The fraction is of all N, reserved units
+/// among it (Decision 77).
 pub fn alarm_fraction(image: &[u8], fraction: f64) -> Answer<bool> {
     let volume = Volume::open(image)?;
     if !(0.0..=1.0).contains(&fraction) {

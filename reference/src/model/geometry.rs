@@ -1,9 +1,12 @@
-//! The edition and the four numbers of a volume, their limits, and the
+//! The edition and the five numbers of a volume, their limits, and the
 //! trailer that holds them.
 //!
 //! What the two editions differ in is here: the version, the trailer's length,
-//! and how many words of a map stand before its units. Everything else asks
-//! these functions and is the same for both.
+//! whether units can be reserved, and how many words of a map stand before its
+//! units. Everything else asks these functions and is the same for both. Which
+//! numbers are units is said here too, by [`Geometry::units`] alone.
+
+use core::ops::Range;
 
 use super::refusals::{FOREIGN, GEOMETRY, SHORT};
 use super::{Answer, Refusal};
@@ -35,8 +38,9 @@ pub(crate) const CHUNK_WORDS: usize = 4;
 pub(crate) const WORD: usize = 8;
 /// "The trailer begins with the four bytes 52 4D 41 50" (01).
 const TAG: [u8; 4] = *b"RMAP";
-/// Bytes of the fields that both editions' trailers begin with.
-const FIELDS: usize = 32;
+/// Bytes of edition 2's trailer, the longer one: "edition 1's fields, then two
+/// u32" (02, request 4).
+const MAX_TRAILER: usize = 40;
 
 /// Which of the two layouts an image has.
 #[derive(Clone, Copy, Debug, PartialEq, Eq)]
@@ -60,8 +64,8 @@ impl Edition {
     /// (02, request 4).
     pub(crate) const fn trailer_len(self) -> usize {
         match self {
-            Edition::One => FIELDS,
-            Edition::Two => FIELDS + 8,
+            Edition::One => 32,
+            Edition::Two => MAX_TRAILER,
         }
     }
 
@@ -82,25 +86,25 @@ impl Edition {
         [a, b, c, d, low, high]
     }
 
-    /// The trailer of this edition, its fields and what comes after them, if
-    /// the image ends in one by its tag and version.
-    fn trailer_in(self, image: &[u8]) -> Option<(&[u8; FIELDS], &[u8])> {
+    /// The trailer of this edition, if the image ends in one by its tag and
+    /// version.
+    fn trailer_in(self, image: &[u8]) -> Option<&[u8]> {
         let from = image.len().checked_sub(self.trailer_len())?;
-        let (fields, spare) = image[from..].split_first_chunk()?;
-        fields.starts_with(&self.start()).then_some((fields, spare))
+        let trailer = &image[from..];
+        trailer.starts_with(&self.start()).then_some(trailer)
     }
 
     /// Rows 1 and 2: "image under 32 bytes" (01); "The last 32 bytes are tried
     /// as edition 1 first, then the last 40 as edition 2; if neither has tag
     /// and version, 2." (02, request 4) Tag and version alone decide
     /// (Decision 62). Answers the trailer as well.
-    pub(crate) fn of_image(image: &[u8]) -> Answer<(Self, &[u8; FIELDS], &[u8])> {
+    pub(crate) fn of_image(image: &[u8]) -> Answer<(Self, &[u8])> {
         if image.len() < Edition::One.trailer_len() {
             return Err(Refusal::plain(SHORT));
         }
         for edition in Edition::ALL {
-            if let Some((fields, spare)) = edition.trailer_in(image) {
-                return Ok((edition, fields, spare));
+            if let Some(trailer) = edition.trailer_in(image) {
+                return Ok((edition, trailer));
             }
         }
         Err(Refusal::plain(FOREIGN))
@@ -120,25 +124,46 @@ pub(crate) struct Geometry {
     pub m: usize,
     /// Backing units, N.
     pub n: usize,
+    /// Reserved units, R, the first of the N. "Edition 1 behaves as R = 0."
+    /// (02, request 5)
+    pub r: usize,
 }
 
 impl Geometry {
     /// "P units make a chunk, 2 to 16. C chunks, 1 to 256. M chunk maps, C+1
-    /// to C+32. N backing units, P to P·M." (01) The limits are the same in
-    /// both editions (Decision 63). Each is tested before its number is used
-    /// to make the next one, so that nothing wraps.
-    pub fn within_limits(edition: Edition, p: u64, c: u64, m: u64, n: u64) -> Option<Self> {
+    /// to C+32. N backing units, P to P·M." (01) "R, the reserved units, 0 to
+    /// N-P" (02, request 5). The limits of the first four are the same in both
+    /// editions (Decision 63), and edition 1 has no R but 0. Each is tested
+    /// before its number is used to make the next one, so that nothing wraps
+    /// (Decision 74).
+    pub fn within_limits(edition: Edition, [p, c, m, n, r]: [u64; 5]) -> Option<Self> {
         let good = (2..=16).contains(&p)
             && (1..=256).contains(&c)
             && (c + 1..=c + 32).contains(&m)
-            && (p..=p * m).contains(&n);
+            && (p..=p * m).contains(&n)
+            && r <= n - p;
         good.then_some(Geometry {
             edition,
             p: p as usize,
             c: c as usize,
             m: m as usize,
             n: n as usize,
+            r: r as usize,
         })
+    }
+
+    /// "The units that a chunk may hold are R to N-1." (Decision 75) These can
+    /// be free or held: "Units below R are never free and never held" (02,
+    /// request 5). Rule 1 alone asks for less, "units below N" (01).
+    pub fn units(&self) -> Range<usize> {
+        self.r..self.n
+    }
+
+    /// Whether a word of a map is a unit, compared as 64 bits: 2^32-1 is none,
+    /// and no X (Decision 5).
+    pub fn is_unit(&self, word: u64) -> bool {
+        let Range { start, end } = self.units();
+        (start as u64..end as u64).contains(&word)
     }
 
     /// The words of a map: "M chunk maps of P words each" (01), "P+1 words for
@@ -187,12 +212,13 @@ impl Geometry {
         self.map_word_at(map, self.edition.size_words() + j)
     }
 
-    /// The fields that both editions have: "The trailer begins with the four
-    /// bytes 52 4D 41 50, then u16 version 1, u16 P, and u32 each: C, M, N,
-    /// distance back from the trailer's first byte to the logical map (8C+8MP),
-    /// distance back to the chunk maps (8MP), length of the whole image
-    /// (8C+8MP+32)." (01)
-    fn fields(&self) -> [u8; FIELDS] {
+    /// "The trailer begins with the four bytes 52 4D 41 50, then u16 version 1,
+    /// u16 P, and u32 each: C, M, N, distance back from the trailer's first
+    /// byte to the logical map (8C+8MP), distance back to the chunk maps (8MP),
+    /// length of the whole image (8C+8MP+32)." (01) "The first of edition 2's
+    /// two last u32 becomes R" (02, request 5), and the other is 0. Edition 1's
+    /// ends before these two.
+    fn trailer(&self) -> [u8; MAX_TRAILER] {
         let words = [
             self.c,
             self.m,
@@ -200,41 +226,44 @@ impl Geometry {
             self.logical_len() + self.maps_len(),
             self.maps_len(),
             self.image_len(),
+            self.r,
+            0,
         ];
-        let mut fields = [0; FIELDS];
-        fields[..6].copy_from_slice(&self.edition.start());
-        fields[6..8].copy_from_slice(&(self.p as u16).to_le_bytes());
-        for (field, word) in fields[8..].chunks_exact_mut(4).zip(words) {
+        let mut trailer = [0; MAX_TRAILER];
+        trailer[..6].copy_from_slice(&self.edition.start());
+        trailer[6..8].copy_from_slice(&(self.p as u16).to_le_bytes());
+        for (field, word) in trailer[8..].chunks_exact_mut(4).zip(words) {
             field.copy_from_slice(&(word as u32).to_le_bytes());
         }
-        fields
+        trailer
     }
 
-    /// Writes the trailer: the fields and, in edition 2, "then two u32 that
-    /// must be 0" (02, request 4). The slice must have its length.
+    /// Writes the trailer. The slice must have its length.
     pub fn write_trailer(&self, trailer: &mut [u8]) {
-        let (fields, spare) = trailer.split_at_mut(FIELDS);
-        fields.copy_from_slice(&self.fields());
-        spare.fill(0);
+        trailer.copy_from_slice(&self.trailer()[..self.edition.trailer_len()]);
     }
 
     /// Rows 1 to 3 of the table; row 3: "a limit broken, or a distance or
-    /// length that disagrees" (01), or one of edition 2's last two numbers
-    /// that is not 0. The slice is the image, with no slack before it
-    /// (Decision 6). What is wrong besides tag and version is not tried again
-    /// as the other edition (Decision 62).
+    /// length that disagrees" (01), or edition 2's last number that is not 0:
+    /// "the u32 after it must still be 0" (Decision 74). The slice is the
+    /// image, with no slack before it (Decision 6). What is wrong besides tag
+    /// and version is not tried again as the other edition (Decision 62).
     pub fn of_image(image: &[u8]) -> Answer<Self> {
-        let (edition, fields, spare) = Edition::of_image(image)?;
+        let (edition, trailer) = Edition::of_image(image)?;
         let number = |at: usize| {
-            let b = &fields[at..at + 4];
+            let b = &trailer[at..at + 4];
             u64::from(u32::from_le_bytes([b[0], b[1], b[2], b[3]]))
         };
-        let p = u64::from(u16::from_le_bytes([fields[6], fields[7]]));
-        // Once the four numbers are good they fix the whole trailer, so the
-        // distances and the length are compared all at once.
-        Geometry::within_limits(edition, p, number(8), number(12), number(16))
+        let p = u64::from(u16::from_le_bytes([trailer[6], trailer[7]]));
+        let r = match edition {
+            Edition::One => 0,
+            Edition::Two => number(32),
+        };
+        // Once the five numbers are good they fix the whole trailer, so the
+        // distances, the length and the last number are compared all at once.
+        Geometry::within_limits(edition, [p, number(8), number(12), number(16), r])
             .filter(|geometry| geometry.image_len() == image.len())
-            .filter(|geometry| geometry.fields() == *fields && spare.iter().all(|&byte| byte == 0))
+            .filter(|geometry| geometry.trailer()[..trailer.len()] == *trailer)
             .ok_or(Refusal::plain(GEOMETRY))
     }
 }

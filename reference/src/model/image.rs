@@ -11,19 +11,20 @@ pub(crate) const X: u64 = u64::MAX;
 pub(crate) type Units = BitSet<UNIT_WORDS>;
 pub(crate) type Maps = BitSet<MAP_WORDS>;
 
-/// "Load answers P, C, M, N and both" free sets (01).
+/// "Load answers P, C, M, N and both" free sets (01), and R (02, request 5).
 #[derive(Clone, Debug, PartialEq, Eq)]
 pub struct Loaded {
     pub p: u64,
     pub c: u64,
     pub m: u64,
     pub n: u64,
+    pub r: u64,
     pub units: [u64; 72],
     pub maps: [u64; 5],
 }
 
 /// "The edition comes from a new call" (Decision 71): edition, P, C, M, N and
-/// the reserved units, of which there are none.
+/// the number of reserved units (Decision 78).
 #[derive(Clone, Copy, Debug, PartialEq, Eq)]
 pub struct Shape {
     pub edition: u64,
@@ -98,10 +99,11 @@ impl<'a> Words<'a> {
         self.units(map).take_while(|&word| word != X)
     }
 
-    /// Whether a map "holds 1 to P units below N, then only X" (01), with a
-    /// size that takes just those units, if it keeps one.
-    pub fn is_well_formed(self, map: u64, n: u64) -> bool {
-        let held = self.units(map).take_while(|&word| word < n).count();
+    /// Whether a map "holds 1 to P units below N, then only X" (01), none of
+    /// them reserved, with a size that takes just those units, if it keeps one.
+    pub fn is_well_formed(self, map: u64, geometry: &Geometry) -> bool {
+        let unit = |word: &u64| geometry.is_unit(*word);
+        let held = self.units(map).take_while(unit).count();
         let only_x = self.units(map).skip(held).all(|word| word == X);
         held > 0 && only_x && self.size_takes(map, held)
     }
@@ -135,14 +137,16 @@ impl<'a> Volume<'a> {
             return Err(Refusal::at(BAD_LINK, chunk as u64));
         }
 
-        let mut free_units = Units::first(geometry.n);
-        let mut free_maps = Maps::first(geometry.m);
+        let mut free_units = Units::of(geometry.units());
+        let mut free_maps = Maps::of(0..geometry.m);
         // The first clash is kept until every map's form has been seen: row 5
         // of a higher chunk still wins over row 6.
         let mut clash = None;
         for (chunk, map) in words.links() {
             // Row 5: a named map that is not "1 to P units below N, then only
             // X", or whose size takes other units, the lowest such chunk.
+            // "Units below R are never free and never held: a named map with
+            // one gives 5." (02, request 5)
             // Row 6: "the second chunk is the lowest that claims a map or unit
             // of a lower chunk, or one unit twice"; in each case the map or
             // unit is gone by then.
@@ -150,8 +154,7 @@ impl<'a> Volume<'a> {
             let mut held = 0;
             let mut rest = words.units(map);
             for unit in rest.by_ref().take_while(|&word| word != X) {
-                // Words count as 64 bits: 2^32-1 is no X (Decision 5).
-                if unit >= geometry.n as u64 {
+                if !geometry.is_unit(unit) {
                     return Err(Refusal::at(BAD_MAP, chunk as u64));
                 }
                 fresh &= free_units.remove(unit as usize);
@@ -223,15 +226,17 @@ impl<'a> Volume<'a> {
 }
 
 /// Load. "Held units are those in named maps; all others are free. The same
-/// for maps." (01)
+/// for maps." (01) Reserved units are neither; "load answers" how many there
+/// are (02, request 5).
 pub fn load(image: &[u8]) -> Answer<Loaded> {
     let volume = Volume::open(image)?;
-    let Geometry { p, c, m, n, .. } = volume.geometry;
+    let Geometry { p, c, m, n, r, .. } = volume.geometry;
     Ok(Loaded {
         p: p as u64,
         c: c as u64,
         m: m as u64,
         n: n as u64,
+        r: r as u64,
         units: volume.free_units.into_words(),
         maps: volume.free_maps.into_words(),
     })
@@ -246,6 +251,7 @@ pub fn shape(image: &[u8]) -> Answer<Shape> {
         c,
         m,
         n,
+        r,
     } = Volume::open(image)?.geometry;
     Ok(Shape {
         edition: edition.number(),
@@ -253,7 +259,7 @@ pub fn shape(image: &[u8]) -> Answer<Shape> {
         c: c as u64,
         m: m as u64,
         n: n as u64,
-        r: 0,
+        r: r as u64,
     })
 }
 
@@ -278,12 +284,17 @@ fn format_as(image: &mut [u8], geometry: Option<Geometry>) -> Answer<()> {
 
 /// Format of edition 1.
 pub fn format(image: &mut [u8], p: u64, c: u64, m: u64, n: u64) -> Answer<()> {
-    format_as(image, Geometry::within_limits(Edition::One, p, c, m, n))
+    format_as(
+        image,
+        Geometry::within_limits(Edition::One, [p, c, m, n, 0]),
+    )
 }
 
-/// Format of edition 2. It "takes R from the start, which must be 0 here, else
-/// 3" (Decision 71).
+/// Format of edition 2, which takes R: "R above N-P gives 3 like any other limit
+/// broken, in format too, for any 64-bit number" (Decision 74).
 pub fn format2(image: &mut [u8], p: u64, c: u64, m: u64, n: u64, r: u64) -> Answer<()> {
-    let geometry = Geometry::within_limits(Edition::Two, p, c, m, n);
-    format_as(image, geometry.filter(|_| r == 0))
+    format_as(
+        image,
+        Geometry::within_limits(Edition::Two, [p, c, m, n, r]),
+    )
 }

@@ -71,7 +71,8 @@ impl Step {
     /// One step, if it keeps rule 1: "of the four kinds; units below N, pieces
     /// and words below P, maps below M, chunks below C; a MAP value below N or
     /// X, a LINK value below M or X; unused fields 0." (01) In edition 2 "MAP
-    /// words run from 0 to P: word 0 holds 1 to P·4,096" (02, request 4).
+    /// words run from 0 to P: word 0 holds 1 to P·4,096" (02, request 4). A
+    /// reserved unit is below N and keeps the rule (Decision 76).
     pub fn decode(bytes: &[u8; STEP], geometry: &Geometry) -> Option<Self> {
         let field = |i: usize| {
             let b = &bytes[4 * i..4 * i + 4];
@@ -154,7 +155,7 @@ pub fn plan_write(image: &[u8], chunk: u64, size: u64, out: &mut [u8]) -> Answer
     let chunk = volume.chunk(chunk)? as u32;
     let k = units_of(&geometry, size)?;
 
-    // Row 9: "fewer than k units free".
+    // Row 9: "fewer than k units free", of which a reserved one is none.
     let mut units = [0; MAX_UNITS_PER_CHUNK];
     let mut found = 0;
     for (slot, unit) in units[..k].iter_mut().zip(volume.free_units.iter()) {

@@ -1,5 +1,7 @@
 //! Repair of a damaged image.
 
+use core::ops::Range;
+
 use super::bits::BitSet;
 use super::geometry::{Geometry, CHUNK_WORDS, MAP_WORDS, UNIT_WORDS, WORD};
 use super::image::{Words, X};
@@ -19,10 +21,10 @@ struct Claims<const WORDS: usize> {
 }
 
 impl<const WORDS: usize> Claims<WORDS> {
-    /// Of the numbers below `count` none is claimed.
-    fn none(count: usize) -> Self {
+    /// Of these numbers none is claimed.
+    fn none(numbers: Range<usize>) -> Self {
         Claims {
-            unclaimed: BitSet::first(count),
+            unclaimed: BitSet::of(numbers),
             contested: BitSet::empty(),
         }
     }
@@ -43,14 +45,14 @@ impl<const WORDS: usize> Claims<WORDS> {
 /// unit with another or names a unit twice" (02, request 3).
 fn faulty(image: &[u8], geometry: &Geometry) -> Chunks {
     let words = Words::of_image(image, geometry);
-    let (m, n) = (geometry.m as u64, geometry.n as u64);
     let mut faulty = Chunks::empty();
-    let mut maps: Claims<MAP_WORDS> = Claims::none(geometry.m);
-    let mut units: Claims<UNIT_WORDS> = Claims::none(geometry.n);
+    let mut maps: Claims<MAP_WORDS> = Claims::none(0..geometry.m);
+    let mut units: Claims<UNIT_WORDS> = Claims::none(geometry.units());
     for (chunk, map) in words.links() {
         // Rows 4 and 5, asked of this chunk by itself. What it names counts
-        // for nobody, so only the others make claims.
-        if map >= m || !words.is_well_formed(map, n) {
+        // for nobody, so only the others make claims, and none of them on a
+        // reserved unit.
+        if map >= geometry.m as u64 || !words.is_well_formed(map, geometry) {
             faulty.insert(chunk);
             continue;
         }

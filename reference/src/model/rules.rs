@@ -83,13 +83,15 @@ fn write_rules(volume: &mut Volume, chunk: usize, size: u64, plan: &[u8]) -> Ans
     }
 
     // Rule 2: "pieces 0 to k-1 once each, no other, on different free units."
+    // A reserved unit is none (Decision 76).
     if !pieces_good || units[..k].contains(&None) {
         return Err(broken(2));
     }
     // Rule 3: "all MAP steps on one free map, each word 0 to P-1 once; word j
     // is piece j's unit for j below k, else X." (01) In edition 2 word 0 is
     // "the request's size (rule 3), and word j+1 is piece j's unit or X" (02,
-    // request 4). With rule 2 kept, exactly the first k pieces have a unit.
+    // request 4). With rule 2 kept, exactly the first k pieces have a unit,
+    // none of them reserved, so a word with a reserved one is wrong here.
     let Some(map) = map.filter(|&map| words_good && volume.free_maps.contains(map as usize)) else {
         return Err(broken(3));
     };

@@ -1,10 +1,11 @@
 //! 01's worked cases, [P] and not, with 02's correction of the report, and what
-//! the decisions fix.
+//! the decisions fix. The other requests of 02 have files of their own.
 
 use super::*;
 
 mod edition2;
 mod repair;
+mod reserved;
 
 const X: u64 = u64::MAX;
 const X32: u32 = ABSENT;
@@ -17,6 +18,13 @@ fn small() -> Vec<u8> {
 fn fresh(p: u64, c: u64, m: u64, n: u64) -> Vec<u8> {
     let mut image = vec![0; (8 * c + 8 * m * p + 32) as usize];
     format(&mut image, p, c, m, n).expect("a good geometry");
+    image
+}
+
+/// The same in edition 2, with R as the fifth number.
+fn fresh2([p, c, m, n, r]: [u64; 5]) -> Vec<u8> {
+    let mut image = vec![0; (8 * c + 8 * m * (p + 1) + 40) as usize];
+    format2(&mut image, p, c, m, n, r).expect("a good geometry");
     image
 }
 
@@ -45,6 +53,15 @@ fn set(image: &mut [u8], chunk: usize, map: usize, words: [u64; 4]) {
     put(image, chunk, map as u64);
     for (i, word) in words.into_iter().enumerate() {
         put(image, 4 + 4 * map + i, word);
+    }
+}
+
+/// The same in edition 2, with this size.
+fn set2(image: &mut [u8], chunk: usize, map: usize, size: u64, units: [u64; 4]) {
+    put(image, chunk, map as u64);
+    put(image, 4 + 5 * map, size);
+    for (i, unit) in units.into_iter().enumerate() {
+        put(image, 4 + 5 * map + 1 + i, unit);
     }
 }
 

@@ -196,7 +196,7 @@ pub fn by_model(case: &Case) -> Outcome {
     let sounds = |sounds| answered(u64::from(sounds), 0);
     let answer = match case.call {
         Call::Format { p, c, m, n } => fields(model::format(&mut image, p, c, m, n), nothing),
-        Call::Load => fields(load_to(&image, &mut out), nothing),
+        Call::Load => fields(load_to(&image, &mut out), value),
         Call::Split { offset, length } => {
             fields(model::split(&image, offset, length, &mut out), value)
         }
@@ -271,8 +271,9 @@ pub fn by_model(case: &Case) -> Outcome {
 }
 
 /// Load as the C interface has it, with a lent output: "fewer give 10 with
-/// 648". The words are kept in the machine's own byte order.
-fn load_to(image: &[u8], out: &mut [u8]) -> Answer<()> {
+/// 648". The words are kept in the machine's own byte order. "Load answers R as
+/// its value" (Decision 78).
+fn load_to(image: &[u8], out: &mut [u8]) -> Answer<u64> {
     let loaded = model::load(image)?;
     if out.len() < 8 * LOAD_WORDS {
         return Err(Refusal {
@@ -288,7 +289,7 @@ fn load_to(image: &[u8], out: &mut [u8]) -> Answer<()> {
     for (slot, word) in out.chunks_exact_mut(8).zip(words) {
         slot.copy_from_slice(&word.to_ne_bytes());
     }
-    Ok(())
+    Ok(loaded.r)
 }
 
 /// Cells lent to the library, inside a larger allocation whose other cells

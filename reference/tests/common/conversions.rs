@@ -3,7 +3,7 @@
 //! where the size is k·4,096 and maps that no chunk names become X throughout"
 //! (02, request 4); "Entries, map numbers and the order of units stay, so the
 //! free units and maps are the same. It writes every byte of its buffer."
-//! (Decision 69)
+//! (Decision 69) "the converter writes 0" for R (02, request 5).
 
 use std::fmt::Write;
 
@@ -44,10 +44,12 @@ pub fn flaws(at: u64, case: &Case, library: &Outcome) -> String {
         ffi::load(image, &mut words[0]),
         ffi::load(out, &mut words[1]),
     ];
+    let answered = |answer: &ffi::CAnswer| [answer.number, answer.value] == [0, 0];
     flaw(
-        loaded.iter().all(|answer| answer.number == 0) && words[0] == words[1],
-        "other free sets",
+        loaded.iter().all(answered) && words[0] == words[1],
+        "other free sets, or a reserved unit",
     );
+    flaw(out.ends_with(&[0; 8]), "the last two numbers are not 0");
 
     // Every chunk has the same map number, and the same units in the same
     // order; each named map's size is k·4,096.

@@ -19,7 +19,7 @@ pub struct Coverage {
     seen: [Seen; 3],
 }
 
-#[derive(Clone, Debug, Default)]
+#[derive(Clone, Debug)]
 struct Seen {
     inputs: u64,
     /// Answers by number, 0 to 12.
@@ -32,8 +32,20 @@ struct Seen {
     pairs: [[u64; 13]; 13],
     /// Inputs answered with 11 in which both rules were broken.
     rule_pairs: [[u64; 6]; 6],
-    /// Forms of images and plans.
+    /// Forms of images, requests and plans.
     forms: [u64; forms::COUNT],
+}
+
+impl Seen {
+    const NOTHING: Seen = Seen {
+        inputs: 0,
+        answers: [0; 13],
+        kinds: [0; 9],
+        rules: [0; 6],
+        pairs: [[0; 13]; 13],
+        rule_pairs: [[0; 6]; 6],
+        forms: [0; forms::COUNT],
+    };
 }
 
 /// The names of what [`Coverage`] tells apart.
@@ -132,7 +144,10 @@ fn possible_pairs(entry: Entry, edition: usize) -> Vec<(usize, usize)> {
 /// [`repair_kinds`].
 fn kinds(entry: Entry) -> &'static [&'static str] {
     match entry {
-        Entry::Format | Entry::Format2 | Entry::Load | Entry::Shape => &["answered"],
+        Entry::Format => &["answered"],
+        Entry::Format2 | Entry::Load | Entry::Shape => {
+            &["nothing reserved", "some units", "N-P units"]
+        }
         Entry::Split => &["one piece", "two", "more"],
         Entry::Access => &["reads nothing", "zeros", "the chunk"],
         Entry::Held => &["unmapped", "compressed", "raw"],
@@ -163,6 +178,8 @@ fn kinds(entry: Entry) -> &'static [&'static str] {
             "mapped but nothing saved",
             "ratio rounded",
             "01's rule differs",
+            "units reserved",
+            "held of N-R differs",
         ],
         Entry::Repair => &[
             "nothing unlinked",
@@ -183,6 +200,9 @@ fn kind_possible(entry: Entry, edition: usize, kind: usize) -> bool {
     match entry {
         // "k·4,096 in edition 1" (02, request 4).
         Entry::StoredSize if edition == 1 => kind < 3,
+        // "Edition 1 behaves as R = 0." (02, request 5)
+        Entry::Load | Entry::Shape if edition == 1 => kind == 0,
+        Entry::Report if edition == 1 => kind < 7,
         _ => possible_answers(entry, edition).contains(&0),
     }
 }
@@ -205,7 +225,16 @@ fn kinds_of(case: &Case, answer: &[u64; 9], verdict: &Verdict) -> Vec<usize> {
         Call::Report => return report_kinds(case, answer),
         Call::Repair => return repair_kinds(case, &verdict.faults),
         Call::Convert => return convert_kinds(case),
-        Call::Format { .. } | Call::Format2 { .. } | Call::Load | Call::Shape => 0,
+        Call::Format { .. } => 0,
+        Call::Format2 { p, n, r, .. } => reserved(p, n, r),
+        Call::Load => {
+            let loaded = model::load(&case.image).expect("a good answer");
+            reserved(loaded.p, loaded.n, value)
+        }
+        Call::Shape => {
+            let [.., p, _, _, n, r] = *answer;
+            reserved(p, n, r)
+        }
         Call::Split { .. } => value.min(3) as usize - 1,
         Call::Access { .. } => value as usize,
         Call::Held { .. } if extent == 0 => 0,
@@ -232,10 +261,19 @@ fn kinds_of(case: &Case, answer: &[u64; 9], verdict: &Verdict) -> Vec<usize> {
     vec![kind]
 }
 
+/// Which kind an answer is by its R: none, some units, or N-P, which is the most.
+fn reserved(p: u64, n: u64, r: u64) -> usize {
+    match r {
+        0 => 0,
+        _ => 1 + usize::from(r == n - p),
+    }
+}
+
 /// Every kind that a report is. Saved units are "counted over mapped chunks
 /// only" (02, request 1), so it matters how many chunks are mapped, whether all
 /// of those are raw, whether f64 holds their ratio, and whether 01's rule, C·P
-/// less held, would give another count.
+/// less held, would give another count. "Held / N" stays "over N, reserved units
+/// among it" (Decision 77), so it matters whether there are such.
 fn report_kinds(case: &Case, answer: &[u64; 9]) -> Vec<usize> {
     let [_, _, _, mapped, held, free, saved, _, _] = *answer;
     let loaded = model::load(&case.image).expect("a report of a sound image");
@@ -250,6 +288,8 @@ fn report_kinds(case: &Case, answer: &[u64; 9]) -> Vec<usize> {
         // whole number of parts of 2^12.
         !(saved << 12).is_multiple_of(raw),
         loaded.c * loaded.p - held != saved,
+        loaded.r > 0,
+        loaded.r > 0 && held > 0,
     ];
     (0..kinds.len()).filter(|&kind| kinds[kind]).collect()
 }
@@ -313,7 +353,7 @@ impl Coverage {
         Coverage {
             entry,
             inputs: 0,
-            seen: Default::default(),
+            seen: [Seen::NOTHING; 3],
         }
     }
 
@@ -441,7 +481,7 @@ pub fn print(all: &[Coverage]) {
         }
     }
 
-    println!("\nForms of images and plans");
+    println!("\nForms of images, requests and plans");
     for (form, what) in forms::NAMES.iter().enumerate() {
         let counts = all.iter().flat_map(|coverage| {
             let entry = coverage.entry;

@@ -1,21 +1,26 @@
-//! Forms of images and plans that an entry point must have met, besides the
-//! rows and rules: those in which the two editions could be taken for each
-//! other, and sizes that do not fit their units (02, request 4).
+//! Forms of images, requests and plans that an entry point must have met,
+//! besides the rows and rules: those in which the two editions could be taken
+//! for each other, sizes that do not fit their units (02, request 4), and
+//! reserved units (02, request 5).
+
+use std::collections::BTreeSet;
 
 use sumbilak_reference::inputs::{self, Edition, Shape};
+use sumbilak_reference::model;
 
 use super::cases::{Call, Case, Entry};
 use super::repairs;
 use super::rows::Verdict;
 
-pub const COUNT: usize = 19;
+pub const COUNT: usize = 38;
 
-/// Forms of an image, then forms of a write's plan.
+/// Forms of an image, then forms of a write's plan; the same with reserved
+/// units, requests between them; forms of a format.
 pub const NAMES: [&str; COUNT] = [
     "both tags, read as edition 1 and answered",
     "both tags, refused with 3",
     "32 to 39 bytes",
-    "nothing wrong but a spare word",
+    "nothing wrong but the last number",
     "size 0",
     "size a byte too large",
     "size a byte too small",
@@ -31,25 +36,53 @@ pub const NAMES: [&str; COUNT] = [
     "word 0 missing",
     "word P missing",
     "word P, a unit",
+    "nothing wrong but R of N-P+1",
+    "nothing wrong but R of N or more",
+    "units reserved, answered",
+    "named map wrong by a reserved unit alone",
+    "unit R-1 in a named map",
+    "unit R in a named map, answered",
+    "reserved unit in a dead map, answered",
+    "reserved unit named twice",
+    "9, reserved units would do",
+    "R, and N-R of just (C+1)·P, answered",
+    "R, and N-R one less, 9",
+    "sounds, silent were reserved units free",
+    "a fraction of N-R would answer otherwise",
+    "rule 2 by a reserved unit in DATA alone",
+    "rule 3, a reserved unit in MAP",
+    "rule 1 or 2, a reserved unit in MAP alone",
+    "format, nothing wrong but R of N-P+1",
+    "format, R good but for 2^32",
+    "format, N below P and R above 0",
 ];
 
 const IMAGES: usize = 11;
+const RESERVED: usize = 19;
+const FORMATS: usize = 35;
 
 /// Whether an entry point of an edition has to meet a form. Edition 1 has no
-/// sizes; a repair does not refuse them, and a converter refuses all of edition
-/// 2.
+/// sizes and no reserved units; a repair does not refuse them, and a converter
+/// refuses all of edition 2.
 pub fn possible(entry: Entry, edition: usize, form: usize) -> bool {
     let converts = entry == Entry::Convert;
     let checks = matches!(entry, Entry::CheckWrite | Entry::CarryWrite);
     let format = matches!(entry, Entry::Format | Entry::Format2);
     match (edition, form) {
+        (2, FORMATS..) => entry == Entry::Format2,
         _ if format => false,
         (1, 0 | 1) => true,
         (0, 2) => true,
         (2, 3) => true,
         (2, 4..=10) => !converts,
         (1 | 2, 11) => checks,
-        (2, IMAGES..) => checks,
+        (2, IMAGES..RESERVED) => checks,
+        (2, 19 | 20) => true,
+        (2, 21..=26) => !converts,
+        (2, 27..=29) => entry == Entry::PlanWrite,
+        (2, 30) => matches!(entry, Entry::AlarmCount | Entry::AlarmFraction),
+        (2, 31) => entry == Entry::AlarmFraction,
+        (2, 32..=34) => checks,
         _ => false,
     }
 }
@@ -70,35 +103,193 @@ pub fn of(case: &Case, answer: &[u64; 9], verdict: &Verdict) -> Vec<usize> {
             forms.push(form);
         }
     };
-    if matches!(case.call, Call::Format { .. } | Call::Format2 { .. }) {
-        return forms;
+    match case.call {
+        Call::Format { .. } => return forms,
+        Call::Format2 { p, c, m, n, r } => {
+            return format_forms([p, c, m, n, r], image.len(), number)
+        }
+        _ => {}
     }
     let both = tagged(image, 32, 1) && tagged(image, 40, 2);
     put(0, both && number == 0);
     put(1, both && number == 3);
     put(2, (32..40).contains(&image.len()) && number == 2);
-    if verdict.edition == 2 && image.len() >= 40 {
-        // A spare word of an image that has nothing else wrong with it.
-        let at = image.len() - 8;
-        let (tables, spare) = image.split_at(at);
-        let refused = verdict.rows().contains(&3) || matches!(case.call, Call::Convert);
-        if refused && spare.iter().any(|&byte| byte != 0) {
-            let mut zeroed = tables.to_vec();
-            zeroed.extend([0; 8]);
-            put(3, sumbilak_reference::model::load(&zeroed).is_ok());
-        }
+    if verdict.edition == 2 && image.len() >= 40 && verdict.rows().contains(&3) {
+        // One of the last two numbers, and nothing else is wrong.
+        let loads_without = |back: usize| {
+            let mut zeroed = image.clone();
+            zeroed[image.len() - back..][..4].fill(0);
+            model::load(&zeroed).is_ok()
+        };
+        let Shape { p, n, r, .. } = repairs::shape(image);
+        put(3, loads_without(4));
+        let reserved_only = loads_without(8);
+        put(19, reserved_only && r + p == n + 1);
+        put(20, reserved_only && r >= n);
     }
     let sound_trailer = verdict.edition == 2 && !verdict.rows().iter().any(|&row| row < 4);
     if sound_trailer {
         let shape = repairs::shape(image);
         let kept = |form: &usize| (4..IMAGES).contains(form);
         forms.extend(sizes(&shape, image).into_iter().filter(kept));
+        if shape.r > 0 {
+            forms.extend(reserved_forms(&shape, image, number));
+            forms.extend(request_forms(&shape, case, answer));
+        }
     }
     if number == 11 || number == 0 {
         if let Call::CheckWrite { size, .. } | Call::CarryWrite { size, .. } = case.call {
             let shape = repairs::shape(image);
-            forms.extend(plan_forms(&shape, size, &case.plan, [number, answer[1]]));
+            let given = [number, answer[1]];
+            forms.extend(plan_forms(&shape, size, &case.plan, given));
+            if shape.r > 0 {
+                forms.extend(reserved_plan_forms(&shape, image, size, &case.plan, given));
+            }
         }
+    }
+    forms
+}
+
+/// What is special about the R of a format.
+fn format_forms(numbers: [u64; 5], len: usize, answer: u64) -> Vec<usize> {
+    let [p, c, m, n, r] = numbers;
+    // Whether another R would do.
+    let good_with = |r: u64| {
+        let mut image = vec![0; len];
+        model::format2(&mut image, p, c, m, n, r).is_ok()
+    };
+    if answer == 0 {
+        return Vec::new();
+    }
+    let mut forms = Vec::new();
+    if r > 0 && n < p {
+        forms.push(37);
+    } else if r >= inputs::TWO_32 && good_with(r % inputs::TWO_32) {
+        forms.push(36);
+    } else if n >= p && r == n - p + 1 && good_with(r - 1) {
+        forms.push(35);
+    }
+    forms
+}
+
+/// Reserved units in the maps of an image, of which some are reserved.
+fn reserved_forms(shape: &Shape, image: &[u8], number: u64) -> Vec<usize> {
+    let words = |map: u64| -> Vec<u64> {
+        let units = (0..shape.p).map(|j| inputs::word(image, shape.unit_at(map, j)));
+        units.collect()
+    };
+    let mut forms = Vec::new();
+    let mut seen = BTreeSet::new();
+    for chunk in inputs::mapped(shape, image) {
+        let map = inputs::entry(image, chunk);
+        let words = words(map);
+        // What it would hold if nothing were reserved.
+        let held = words.iter().take_while(|&&word| word < shape.n).count();
+        let (units, rest) = words.split_at(held);
+        let size = inputs::word(image, shape.word_at(map, 0));
+        let form_good = held > 0 && rest.iter().all(|&word| word == inputs::X);
+        let fits = size.div_ceil(4096) == held as u64;
+        let reserved = units.iter().any(|&unit| unit < shape.r);
+        if form_good && fits && reserved {
+            forms.push(22);
+        }
+        if words.contains(&(shape.r - 1)) {
+            forms.push(23);
+        }
+        if number == 0 && words.contains(&shape.r) {
+            forms.push(24);
+        }
+        if words
+            .iter()
+            .any(|&word| word < shape.r && !seen.insert(word))
+        {
+            forms.push(26);
+        }
+    }
+    if number == 0 {
+        forms.push(21);
+        let reserved = |map: u64| words(map).iter().any(|&word| word < shape.r);
+        let mut dead = inputs::free_maps(shape, image).into_iter();
+        if dead.any(reserved) {
+            forms.push(25);
+        }
+    }
+    // Once for an image.
+    forms.sort_unstable();
+    forms.dedup();
+    forms
+}
+
+/// Answers that would be others if reserved units were free, or left out of N.
+fn request_forms(shape: &Shape, case: &Case, answer: &[u64; 9]) -> Vec<usize> {
+    let [number, place, _, value, ..] = *answer;
+    let free = inputs::free_units(shape, &case.image).len() as u64;
+    let Shape { p, c, n, r, .. } = *shape;
+    let room = (c + 1) * p;
+    let mut forms = Vec::new();
+    match case.call {
+        Call::PlanWrite { size, .. } => {
+            if number == 9 && size.div_ceil(4096) <= place + r {
+                forms.push(27);
+            }
+            if number == 0 && n - r == room {
+                forms.push(28);
+            }
+            if number == 9 && n - r == room - 1 {
+                forms.push(29);
+            }
+        }
+        Call::AlarmCount { units } if [number, value] == [0, 1] && free + r >= units => {
+            forms.push(30);
+        }
+        Call::AlarmFraction { fraction } if number == 0 => {
+            let sounds = |free: u64, n: u64| (free as f64) < fraction * n as f64;
+            if value == 1 && !sounds(free + r, n) {
+                forms.push(30);
+            }
+            if sounds(free, n) != sounds(free, n - r) {
+                forms.push(31);
+            }
+        }
+        _ => {}
+    }
+    forms
+}
+
+/// Reserved units in a write's plan that was refused with 11 and this rule.
+fn reserved_plan_forms(
+    shape: &Shape,
+    image: &[u8],
+    size: u64,
+    plan: &[u8],
+    answer: [u64; 2],
+) -> Vec<usize> {
+    let [number, rule] = answer;
+    if number == 0 {
+        return Vec::new();
+    }
+    let steps = inputs::decode(plan);
+    let of_kind = |kind: u32| steps.iter().filter(move |step| step[0] == kind);
+    let mut pieces: Vec<u64> = of_kind(1).map(|step| u64::from(step[2])).collect();
+    let units: Vec<u64> = of_kind(1).map(|step| u64::from(step[1])).collect();
+    pieces.sort_unstable();
+    let different: BTreeSet<u64> = units.iter().copied().collect();
+    let in_data = units.iter().any(|&unit| unit < shape.r);
+    let in_map = of_kind(2).any(|step| step[2] > 0 && u64::from(step[3]) < shape.r);
+    let free = inputs::free_units(shape, image);
+    let free_or_reserved = |unit: &u64| *unit < shape.r || free.contains(unit);
+    let alone = pieces.into_iter().eq(0..size.div_ceil(4096))
+        && different.len() == units.len()
+        && units.iter().all(free_or_reserved);
+    let mut forms = Vec::new();
+    if rule == 2 && in_data && alone {
+        forms.push(32);
+    }
+    if rule == 3 && in_map {
+        forms.push(33);
+    }
+    if rule < 3 && in_map && !in_data {
+        forms.push(34);
     }
     forms
 }

@@ -136,6 +136,21 @@ pub fn case(rng: &mut Rng, entry: Entry, pool: &[Base]) -> Case {
     }
 }
 
+/// R for a format of N units with P in a chunk, both good or not: mostly the
+/// good one that was drawn, else at or past N-P, where N-P may wrap, or good but
+/// for 2^32.
+fn reserved(rng: &mut Rng, p: u64, n: u64, good: u64) -> u64 {
+    let most = n.wrapping_sub(p);
+    match rng.below(20) {
+        0..=12 => good,
+        13 => most,
+        14 | 15 => most.wrapping_add(1),
+        16 => rng.pick(&[1, p, n, most.wrapping_add(2), most.wrapping_sub(1)]),
+        17 | 18 => TWO_32 * rng.between(1, 9) + good,
+        _ => rng.pick(&[TWO_32, TWO_32 - 1, 1 << 63, u64::MAX]),
+    }
+}
+
 /// Format: good geometries and each limit broken, on buffers of the right
 /// length and of others, the other edition's among them.
 fn format(rng: &mut Rng, edition: Edition) -> Case {
@@ -180,8 +195,7 @@ fn format(rng: &mut Rng, edition: Edition) -> Case {
     let call = match edition {
         Edition::One => Call::Format { p, c, m, n },
         Edition::Two => {
-            let some = [1, 2, p, n.wrapping_sub(p), n, TWO_32, 1 << 63, u64::MAX];
-            let r = if rng.chance(85) { 0 } else { rng.pick(&some) };
+            let r = reserved(rng, p, n, shape.r);
             Call::Format2 { p, c, m, n, r }
         }
     };

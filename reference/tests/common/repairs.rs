@@ -17,7 +17,7 @@ use super::cases::{Case, Outcome};
 const FEW_CHUNKS: u64 = 40;
 const ONE_OF: u64 = 25;
 
-/// Edition and four numbers of an image whose trailer is good.
+/// Edition and numbers of an image whose trailer is good.
 pub fn shape(image: &[u8]) -> Shape {
     let first = &image[image.len() - 32..];
     let (edition, trailer) = if first.starts_with(b"RMAP\x01\x00") {
@@ -35,6 +35,10 @@ pub fn shape(image: &[u8]) -> Shape {
         c: number(8, 4),
         m: number(12, 4),
         n: number(16, 4),
+        r: match edition {
+            Edition::One => 0,
+            Edition::Two => number(32, 4),
+        },
     }
 }
 

@@ -99,6 +99,8 @@ struct Tables {
     c: u64,
     m: u64,
     n: u64,
+    /// R as it stands there, past its limit or not; 0 in edition 1.
+    r: u64,
     entries: Vec<u64>,
     words: Vec<u64>,
 }
@@ -143,17 +145,19 @@ impl Tables {
 
     /// Whether a map is not "1 to P units below N, then only X" (01), or in
     /// edition 2 k is not "equal to the size rounded up in units" (02,
-    /// request 4).
+    /// request 4), or a unit is below R: "a named map with one gives 5" (02,
+    /// request 5).
     fn bad_form(&self, map: u64) -> bool {
         let words = self.map(map);
         let held = words.iter().filter(|&&word| word != X).count();
         let no_unit = words[..held].iter().any(|&word| word >= self.n);
-        held == 0 || no_unit || !self.size_good(map, held)
+        let reserved = words[..held].iter().any(|&word| word < self.r);
+        held == 0 || no_unit || reserved || !self.size_good(map, held)
     }
 
-    /// Which units are free: in no named map.
+    /// Which units are free: in no named map, and not below R.
     fn free_units(&self) -> Vec<bool> {
-        let mut free = vec![true; self.n as usize];
+        let mut free: Vec<bool> = (0..self.n).map(|unit| unit >= self.r).collect();
         for (_, map) in self.named() {
             for &unit in self.map(map).iter().filter(|&&word| word < self.n) {
                 free[unit as usize] = false;
@@ -180,15 +184,23 @@ fn within_limits([p, c, m, n]: [u128; 4]) -> bool {
     p_good && c_good && m_good && n_good
 }
 
+/// "R, the reserved units, 0 to N-P" (02, request 5), wide enough for any u64:
+/// P units are left.
+fn reserves_few([p, n, r]: [u128; 3]) -> bool {
+    r + p <= n
+}
+
 /// The end of an image as the trailer of one edition.
 struct Ending {
     edition: u64,
     numbers: [u64; 4],
+    /// R, 0 in edition 1.
+    r: u64,
     /// "tag and version" (02, request 4) are this edition's.
     named: bool,
-    /// The numbers keep the limits and make an image of just this length.
+    /// The four numbers keep the limits and make an image of just this length.
     located: bool,
-    /// Distances and length agree, and what has to be 0 is.
+    /// Distances and length agree, R keeps its limit, and what has to be 0 is.
     agrees: bool,
 }
 
@@ -214,13 +226,19 @@ impl Ending {
         let maps = 8 * m * words_of_a_map(edition, p);
         let fits = image.len() as u64 == 8 * c + maps + bytes;
         let distances = to_logical == 8 * c + maps && to_maps == maps;
-        let zeros = trailer[32..].iter().all(|&byte| byte == 0);
+        // Edition 1 has neither of the two.
+        let [r, last] = match edition {
+            1 => [0, 0],
+            _ => [number(&trailer[32..36]), number(&trailer[36..])],
+        };
+        let ends_good = reserves_few([p, n, r].map(u128::from)) && last == 0;
         Some(Ending {
             edition,
             numbers: [p, c, m, n],
+            r,
             named,
             located: limits && fits,
-            agrees: distances && length == 8 * c + maps + bytes && zeros,
+            agrees: distances && length == 8 * c + maps + bytes && ends_good,
         })
     }
 }
@@ -267,6 +285,7 @@ fn trailer_rows(image: &[u8], converted: bool, verdict: &mut Verdict) -> Option<
         c,
         m,
         n,
+        r: ending.r,
         entries: words,
         words: maps,
     })
@@ -294,7 +313,9 @@ fn claims(tables: &Tables, named: impl Iterator<Item = (u64, u64)>) -> Vec<Claim
     let mut claims = Vec::new();
     for (chunk, map) in named {
         claims.push((true, map, chunk));
-        for &word in tables.map(map).iter().filter(|&&word| word < tables.n) {
+        // "Units below R are never free and never held" (02, request 5).
+        let unit = |word: &&u64| tables.r <= **word && **word < tables.n;
+        for &word in tables.map(map).iter().filter(unit) {
             claims.push((false, word, chunk));
         }
     }
@@ -393,12 +414,12 @@ pub fn judge(case: &Case) -> Verdict {
     };
     if let Some((edition, numbers, r)) = format {
         let [p, c, m, n] = numbers.map(u128::from);
-        let limits = within_limits([p, c, m, n]);
+        let limits = within_limits([p, c, m, n]) && reserves_few([p, n, u128::from(r)]);
         let len = match edition {
             1 => 8 * c + 8 * m * p + 32,
             _ => 8 * c + 8 * m * (p + 1) + 40,
         };
-        if !limits || case.image.len() as u128 != len || r != 0 {
+        if !limits || case.image.len() as u128 != len {
             verdict.hold(3, 0);
         }
         verdict.edition = edition;

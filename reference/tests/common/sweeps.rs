@@ -1,6 +1,7 @@
 //! Small scopes gone through completely: every case of a kind on the worked
-//! example of 01 in both editions, on small volumes or, for what is free and
-//! what is repaired, on the largest one, without chance.
+//! example of 01 in both editions, in edition 2 with and without reserved units,
+//! on small volumes or, for what is free and what is repaired, on the largest
+//! one, without chance.
 
 use sumbilak_reference::inputs::{self, Edition, Fields, Shape, FENCE, TWO_32, X, X32};
 use sumbilak_reference::model::{self, UNIT};
@@ -9,15 +10,17 @@ use super::cases::{Call, Case};
 use Edition::{One, Two};
 
 /// The worked example's geometry: 224 bytes, and 272 in edition 2.
-const fn small(edition: Edition) -> Shape {
-    Shape::one(4, 4, 5, 20).in_edition(edition)
-}
+const ONE: Shape = Shape::one(4, 4, 5, 20);
+const TWO: Shape = ONE.in_edition(Two);
+/// The same with its first three units reserved.
+const THREE_RESERVED: Shape = TWO.reserving(3);
+const EXAMPLES: [Shape; 3] = [ONE, TWO, THREE_RESERVED];
 
 /// A sweep hands each of its cases to the given function.
 pub type Sweep = fn(&mut dyn FnMut(Case));
 
 /// Every sweep, by name.
-pub const ALL: [(&str, Sweep); 30] = [
+pub const ALL: [(&str, Sweep); 37] = [
     ("format and load, around every limit", limits),
     ("load, every value of every byte", load_bytes),
     ("load, two words of the tables", load_words),
@@ -54,6 +57,16 @@ pub const ALL: [(&str, Sweep); 30] = [
         "convert, every number of units of each chunk",
         convert_units,
     ),
+    ("format2, shape and load, every R", every_r),
+    (
+        "load and plan_write, every R of the largest",
+        every_r_largest,
+    ),
+    ("load and others, every unit under every R", units_under_r),
+    ("check_write, every unit under every R", plans_under_r),
+    ("plan_write, room around (C+1)·P besides R", rooms),
+    ("alarms, every level under every R", alarms),
+    ("repair, every word of two chunks under R", repair_reserved),
 ];
 
 fn case(call: Call, image: Vec<u8>) -> Case {
@@ -81,34 +94,34 @@ fn write(image: &mut [u8], chunk: u64, size: u64) {
 }
 
 /// The example before its third write: chunk 0 on unit 2 by map 1, chunk 2 on
-/// units 0 and 1 by map 0.
-fn example(edition: Edition) -> Vec<u8> {
-    let mut image = inputs::fresh(&small(edition));
+/// units 0 and 1 by map 0, all counted from the first that is not reserved.
+fn example(shape: Shape) -> Vec<u8> {
+    let mut image = inputs::fresh(&shape);
     write(&mut image, 2, 6144);
     write(&mut image, 0, 3072);
     image
 }
 
 /// The example after it: chunk 0 on units 3 and 4 by map 2.
-fn worked(edition: Edition) -> Vec<u8> {
-    let mut image = example(edition);
+fn worked(shape: Shape) -> Vec<u8> {
+    let mut image = example(shape);
     write(&mut image, 0, 5120);
     image
 }
 
 /// The third write's plan.
-fn third_plan(edition: Edition) -> Vec<Fields> {
-    inputs::assemble(&small(edition), 0, 5120, &[3, 4], 2)
+fn third_plan(shape: Shape) -> Vec<Fields> {
+    inputs::assemble(&shape, 0, 5120, &[shape.r + 3, shape.r + 4], 2)
 }
 
-fn check_third(edition: Edition, steps: &[Fields]) -> Case {
+fn check_third(shape: Shape, steps: &[Fields]) -> Case {
     let call = Call::CheckWrite {
         chunk: 0,
         size: 5120,
     };
     Case {
         plan: inputs::encode(steps),
-        ..case(call, example(edition))
+        ..case(call, example(shape))
     }
 }
 
@@ -126,14 +139,14 @@ fn limits(give: &mut dyn FnMut(Case)) {
                         let buffer = vec![0xA5; image.len()];
                         give(load(image));
                         give(case(Call::Format { p, c, m, n }, buffer));
-                        let image = inputs::blank(&one.in_edition(Two));
-                        let buffer = vec![0xA5; image.len()];
-                        give(case(Call::Shape, image));
-                        let r = 0;
-                        give(case(Call::Format2 { p, c, m, n, r }, buffer.clone()));
-                        for r in [1, p, n, TWO_32, u64::MAX] {
+                        // N-P may wrap.
+                        let most = n.wrapping_sub(p);
+                        for r in [0, most, most.wrapping_add(1)] {
+                            reserve(&one, r, give);
+                        }
+                        for r in [1, p, n, TWO_32, TWO_32 + 1, u64::MAX] {
                             if c == 2 && m == 3 && r > 0 {
-                                give(case(Call::Format2 { p, c, m, n, r }, buffer.clone()));
+                                reserve(&one, r, give);
                             }
                         }
                     }
@@ -141,6 +154,16 @@ fn limits(give: &mut dyn FnMut(Case)) {
             }
         }
     }
+}
+
+/// A format with this R, and the shape of an image that has it, as far as 32
+/// bits go.
+fn reserve(shape: &Shape, r: u64, give: &mut dyn FnMut(Case)) {
+    let Shape { p, c, m, n, .. } = *shape;
+    let image = inputs::blank(&shape.reserving(r));
+    let buffer = vec![0xA5; image.len()];
+    give(case(Call::Shape, image));
+    give(case(Call::Format2 { p, c, m, n, r }, buffer));
 }
 
 /// The image with every value in every byte.
@@ -156,11 +179,10 @@ fn every_byte(image: &[u8], give: &mut dyn FnMut(Vec<u8>)) {
 
 /// An image of the example's shape with twelve values in every two words of its
 /// tables, in edition 2 with sixteen.
-fn two_words(edition: Edition, image: &[u8], give: &mut dyn FnMut(Vec<u8>)) {
-    let shape = small(edition);
+fn two_words(shape: Shape, image: &[u8], give: &mut dyn FnMut(Vec<u8>)) {
     let words = (shape.image_len() - shape.trailer_len()) / 8;
     let mut values = vec![0, 1, 2, 3, 4, 5, 19, 20, TWO_32 - 1, TWO_32 + 1, X - 1, X];
-    if edition == Two {
+    if shape.edition == Two {
         values.extend([4096, 4097, 8192, 8193]);
     }
     for first in 0..words {
@@ -188,21 +210,32 @@ fn every_length(image: &[u8], give: &mut dyn FnMut(Vec<u8>)) {
     }
 }
 
+/// The images whose bytes and words are gone through.
+fn damaged_examples() -> [(Shape, Vec<u8>); 3] {
+    [
+        (ONE, example(ONE)),
+        (TWO, worked(TWO)),
+        (THREE_RESERVED, worked(THREE_RESERVED)),
+    ]
+}
+
 fn load_bytes(give: &mut dyn FnMut(Case)) {
-    every_byte(&example(One), &mut |image| give(load(image)));
-    every_byte(&worked(Two), &mut |image| give(load(image)));
+    for (_, image) in damaged_examples() {
+        every_byte(&image, &mut |image| give(load(image)));
+    }
 }
 
 fn load_words(give: &mut dyn FnMut(Case)) {
-    two_words(One, &example(One), &mut |image| give(load(image)));
-    two_words(Two, &worked(Two), &mut |image| give(load(image)));
+    for (shape, image) in damaged_examples() {
+        two_words(shape, &image, &mut |image| give(load(image)));
+    }
 }
 
 fn load_lengths(give: &mut dyn FnMut(Case)) {
-    for edition in Edition::ALL {
-        every_length(&example(edition), &mut |image| give(load(image)));
+    for shape in EXAMPLES {
+        every_length(&example(shape), &mut |image| give(load(image)));
         for words in 0..100 {
-            let mut case = load(example(edition));
+            let mut case = load(example(shape));
             case.out.resize(8 * words, 0xA5);
             give(case);
         }
@@ -211,8 +244,8 @@ fn load_lengths(give: &mut dyn FnMut(Case)) {
 
 /// All ranges in half units, to one chunk past the end.
 fn ranges(give: &mut dyn FnMut(Case)) {
-    for edition in Edition::ALL {
-        ranges_of(&example(edition), give);
+    for shape in EXAMPLES {
+        ranges_of(&example(shape), give);
     }
 }
 
@@ -239,24 +272,24 @@ fn ranges_of(image: &[u8], give: &mut dyn FnMut(Case)) {
 }
 
 fn plan_bytes(give: &mut dyn FnMut(Case)) {
-    for edition in Edition::ALL {
-        let plan = inputs::encode(&third_plan(edition));
+    for shape in EXAMPLES {
+        let plan = inputs::encode(&third_plan(shape));
         for at in 0..plan.len() {
             for value in 0..=255 {
-                let mut case = check_third(edition, &[]);
+                let mut case = check_third(shape, &[]);
                 case.plan = plan.clone();
                 case.plan[at] = value;
                 give(case);
             }
         }
         for len in 0..plan.len() {
-            let mut case = check_third(edition, &[]);
+            let mut case = check_third(shape, &[]);
             case.plan = plan[..len].to_vec();
             give(case);
         }
-        // Made for the other edition.
-        for other in Edition::ALL {
-            give(check_third(edition, &third_plan(other)));
+        // Made for the other edition, or for other reserved units.
+        for other in EXAMPLES {
+            give(check_third(shape, &third_plan(other)));
         }
     }
 }
@@ -264,14 +297,14 @@ fn plan_bytes(give: &mut dyn FnMut(Case)) {
 /// Every subset of the steps, every two steps swapped, every step moved or
 /// repeated elsewhere, every step replaced by another, fences anywhere.
 fn plan_orders(give: &mut dyn FnMut(Case)) {
-    for edition in Edition::ALL {
-        plan_orders_of(edition, give);
+    for shape in EXAMPLES {
+        plan_orders_of(shape, give);
     }
 }
 
-fn plan_orders_of(edition: Edition, give: &mut dyn FnMut(Case)) {
-    let steps = third_plan(edition);
-    let check_third = |steps: &[Fields]| check_third(edition, steps);
+fn plan_orders_of(shape: Shape, give: &mut dyn FnMut(Case)) {
+    let steps = third_plan(shape);
+    let check_third = |steps: &[Fields]| check_third(shape, steps);
     for subset in 0..1u32 << steps.len() {
         let kept = |at: &usize| subset >> at & 1 != 0;
         let some: Vec<Fields> = (0..steps.len()).filter(kept).map(|at| steps[at]).collect();
@@ -319,6 +352,7 @@ fn discards(give: &mut dyn FnMut(Case)) {
         [3, 1, 0, X32],
         [3, 0, 0, 1],
         [1, 5, 0, 0],
+        [1, 2, 0, 0],
         [2, 3, 0, 5],
         [4, 0, 0, 1],
     ];
@@ -339,10 +373,10 @@ fn discards(give: &mut dyn FnMut(Case)) {
         plans.extend(longer);
     }
     for plan in plans {
-        for (edition, chunk) in Edition::ALL.into_iter().flat_map(|e| [(e, 0), (e, 1)]) {
+        for (shape, chunk) in EXAMPLES.into_iter().flat_map(|s| [(s, 0), (s, 1)]) {
             give(Case {
                 plan: inputs::encode(&plan),
-                ..case(Call::CheckDiscard { chunk }, example(edition))
+                ..case(Call::CheckDiscard { chunk }, example(shape))
             });
         }
     }
@@ -351,16 +385,16 @@ fn discards(give: &mut dyn FnMut(Case)) {
 /// Each prefix of the third write's plan with every order of its first six
 /// steps (seven in edition 2) turned by one place, and of a discard's.
 fn carries(give: &mut dyn FnMut(Case)) {
-    for edition in Edition::ALL {
-        carries_of(edition, give);
+    for shape in EXAMPLES {
+        carries_of(shape, give);
     }
 }
 
-fn carries_of(edition: Edition, give: &mut dyn FnMut(Case)) {
-    let example = || example(edition);
-    let stores = third_plan(edition).len() - 3;
+fn carries_of(shape: Shape, give: &mut dyn FnMut(Case)) {
+    let example = || example(shape);
+    let stores = third_plan(shape).len() - 3;
     for turn in 0..stores {
-        let mut steps = third_plan(edition);
+        let mut steps = third_plan(shape);
         steps[..stores].rotate_left(turn);
         for n in 0..=steps.len() as u64 + 2 {
             let call = Call::CarryWrite {
@@ -386,8 +420,8 @@ fn carries_of(edition: Edition, give: &mut dyn FnMut(Case)) {
 }
 
 fn outputs(give: &mut dyn FnMut(Case)) {
-    for edition in Edition::ALL {
-        outputs_of(&example(edition), give);
+    for shape in EXAMPLES {
+        outputs_of(&example(shape), give);
     }
 }
 
@@ -412,23 +446,35 @@ fn outputs_of(image: &[u8], give: &mut dyn FnMut(Case)) {
 }
 
 /// Small volumes with each chunk on none to P units, in every way that N units
-/// allow. The maps that no chunk names hold X, or name a unit as well.
+/// allow, in edition 2 also with a unit reserved, or as many as can be. The maps
+/// that no chunk names hold X, or name a unit as well.
 fn every_volume(edition: Edition, most: u64, give: &mut dyn FnMut(Vec<u8>)) {
     for p in 2..=most {
         for c in 1..=4 {
             let m = c + 1;
             for n in [p, c * p, m * p] {
-                let shape = Shape::one(p, c, m, n).in_edition(edition);
-                // The digits of a number to base P+1 are the chunks' units.
-                for number in 0..(p + 1).pow(c as u32) {
-                    let digit = |chunk: u64| number / (p + 1).pow(chunk as u32) % (p + 1);
-                    let units: Vec<u64> = (0..c).map(digit).collect();
-                    if units.iter().sum::<u64>() <= n {
-                        give(volume(&shape, &units, X));
-                        give(volume(&shape, &units, 0));
-                    }
+                let one = Shape::one(p, c, m, n);
+                let mut shapes = vec![one.in_edition(edition)];
+                if edition == Two && n > p {
+                    shapes.extend([1, n - p].map(|r| one.reserving(r)));
+                }
+                for shape in shapes {
+                    every_volume_of(&shape, give);
                 }
             }
+        }
+    }
+}
+
+fn every_volume_of(shape: &Shape, give: &mut dyn FnMut(Vec<u8>)) {
+    let Shape { p, c, n, r, .. } = *shape;
+    // The digits of a number to base P+1 are the chunks' units.
+    for number in 0..(p + 1).pow(c as u32) {
+        let digit = |chunk: u64| number / (p + 1).pow(chunk as u32) % (p + 1);
+        let units: Vec<u64> = (0..c).map(digit).collect();
+        if units.iter().sum::<u64>() <= n - r {
+            give(volume(shape, &units, X));
+            give(volume(shape, &units, 0));
         }
     }
 }
@@ -447,7 +493,7 @@ fn volume(shape: &Shape, units: &[u64], dead: u64) -> Vec<u8> {
             inputs::put_word(&mut image, shape.word_at(map, word), dead);
         }
     }
-    let mut next = 0;
+    let mut next = shape.r;
     for (chunk, &count) in (0..).zip(units).filter(|&(_, &count)| count > 0) {
         let map = shape.m - 1 - chunk;
         inputs::put_entry(&mut image, chunk, map);
@@ -465,11 +511,14 @@ fn volume(shape: &Shape, units: &[u64], dead: u64) -> Vec<u8> {
 fn lowest_unit(give: &mut dyn FnMut(Case)) {
     for lowest in 0..=4096u64 {
         if lowest.is_multiple_of(13) {
-            // The same sets in edition 2: the sizes are in none of them.
-            let two = largest(4608).in_edition(Two);
-            let all_above = inputs::with_free(&two, |unit| unit >= lowest);
-            give(plan(&all_above, 16));
-            give(load(all_above));
+            // The same sets in edition 2: the sizes are in none of them, and
+            // a third of the units below is reserved.
+            for r in [0, lowest / 3] {
+                let two = largest(4608).reserving(r);
+                let all_above = inputs::with_free(&two, |unit| unit >= lowest);
+                give(plan(&all_above, 16));
+                give(load(all_above));
+            }
         }
         let all_above = inputs::with_free(&largest(4608), |unit| unit >= lowest);
         give(plan(&all_above, 1));
@@ -591,28 +640,30 @@ fn repair(image: Vec<u8>) -> Case {
 }
 
 fn repair_bytes(give: &mut dyn FnMut(Case)) {
-    every_byte(&example(One), &mut |image| give(repair(image)));
-    every_byte(&worked(Two), &mut |image| give(repair(image)));
+    for (_, image) in damaged_examples() {
+        every_byte(&image, &mut |image| give(repair(image)));
+    }
 }
 
 fn repair_words(give: &mut dyn FnMut(Case)) {
-    two_words(One, &example(One), &mut |image| give(repair(image)));
-    two_words(Two, &worked(Two), &mut |image| give(repair(image)));
+    for (shape, image) in damaged_examples() {
+        two_words(shape, &image, &mut |image| give(repair(image)));
+    }
 }
 
 fn repair_lengths(give: &mut dyn FnMut(Case)) {
-    for edition in Edition::ALL {
-        every_length(&example(edition), &mut |image| give(repair(image)));
+    for shape in EXAMPLES {
+        every_length(&example(shape), &mut |image| give(repair(image)));
     }
 }
 
 /// Every set of chunks with a bad link, by itself and on top of a shared map;
 /// every room for the list up to one chunk more than there are.
 fn repair_lists(give: &mut dyn FnMut(Case)) {
-    for edition in Edition::ALL {
-        let Shape { c, m, .. } = small(edition);
+    for shape in EXAMPLES {
+        let Shape { c, m, .. } = shape;
         for (bad, sharing) in (0..1u32 << c).flat_map(|bad| [(bad, false), (bad, true)]) {
-            let mut image = example(edition);
+            let mut image = example(shape);
             if sharing {
                 inputs::put_entry(&mut image, 3, 0);
             }
@@ -694,14 +745,27 @@ fn repair_sizes(give: &mut dyn FnMut(Case)) {
 /// A volume of the largest shape, all chunks raw: each chunk at fault by itself
 /// in each way, or with the next one; then all of them at once.
 fn repair_largest(give: &mut dyn FnMut(Case)) {
-    // In edition 2 each chunk is at fault by its size.
-    let two = largest(4608).in_edition(Two);
-    let full = inputs::with_free(&two, |unit| unit < 512);
-    for chunk in 0..two.c {
-        let mut image = full.clone();
-        let at = two.word_at(inputs::entry(&full, chunk), 0);
-        inputs::put_word(&mut image, at, 15 * UNIT);
-        give(repair_in(4, image));
+    // In edition 2 each chunk is at fault by its size, or by a reserved unit
+    // where the lowest are reserved and not free.
+    for two in [0, 512].map(|r| largest(4608).reserving(r)) {
+        let full = inputs::with_free(&two, |unit| unit < 512);
+        let mut all_reserved = full.clone();
+        for chunk in 0..two.c {
+            let map = inputs::entry(&full, chunk);
+            let with = |at: usize, value: u64| {
+                let mut image = full.clone();
+                inputs::put_word(&mut image, at, value);
+                image
+            };
+            give(repair_in(4, with(two.word_at(map, 0), 15 * UNIT)));
+            let at = two.unit_at(map, chunk % 16);
+            give(repair_in(4, with(at, 511)));
+            give(repair_in(4, with(at, chunk)));
+            inputs::put_word(&mut all_reserved, at, 511 - chunk);
+        }
+        for room in [1023, 1024] {
+            give(repair_in(room, all_reserved.clone()));
+        }
     }
 
     let shape = largest(4608);
@@ -759,16 +823,15 @@ fn repair_largest(give: &mut dyn FnMut(Case)) {
 /// image of either edition: the tag or another, each version from 0 to 3. The
 /// last map of edition 1, in which edition 2's would stand, is named or not.
 fn trailers(give: &mut dyn FnMut(Case)) {
-    let mut named = worked(One);
-    let shape = small(One);
+    let mut named = worked(ONE);
     inputs::put_entry(&mut named, 3, 4);
-    inputs::put_units(&shape, &mut named, 4, &[16, 17, 18, 19]);
+    inputs::put_units(&ONE, &mut named, 4, &[16, 17, 18, 19]);
     let tags = [*b"RMAP", *b"RMAQ"];
     let starts = || {
         tags.into_iter()
             .flat_map(|tag| (0..4u8).map(move |v| (tag, v)))
     };
-    for image in [worked(One), named, worked(Two)] {
+    for image in [worked(ONE), named, worked(TWO), worked(THREE_RESERVED)] {
         for (tag, version) in starts() {
             for (tag2, version2) in starts() {
                 let mut image = image.clone();
@@ -802,16 +865,21 @@ fn trailers(give: &mut dyn FnMut(Case)) {
 /// Sizes of chunks that are mapped, and of one that is not, with every value in
 /// every byte.
 fn size_bytes(give: &mut dyn FnMut(Case)) {
-    for (image, chunk) in [(worked(Two), 0), (worked(Two), 2), (example(One), 0)] {
+    for (image, chunk) in [
+        (worked(TWO), 0),
+        (worked(TWO), 2),
+        (worked(THREE_RESERVED), 0),
+        (example(ONE), 0),
+    ] {
         every_byte(&image, &mut |image| {
             give(case(Call::StoredSize { chunk }, image));
         });
     }
-    for edition in Edition::ALL {
+    for shape in EXAMPLES {
         for chunk in [0, 1, 2, 3, 4, 5, TWO_32, TWO_32 + 2, u64::MAX] {
-            give(case(Call::StoredSize { chunk }, worked(edition)));
+            give(case(Call::StoredSize { chunk }, worked(shape)));
         }
-        every_length(&worked(edition), &mut |image| {
+        every_length(&worked(shape), &mut |image| {
             give(case(Call::StoredSize { chunk: 2 }, image));
         });
     }
@@ -824,10 +892,11 @@ fn edges(p: u64) -> impl Iterator<Item = u64> {
     near.flat_map(|size| [size, TWO_32.wrapping_add(size), (1 << 63) | size])
 }
 
-/// Every number of units with every size at a unit's edge.
+/// Every number of units with every size at a unit's edge; the units below them
+/// are reserved or not.
 fn size_edges(give: &mut dyn FnMut(Case)) {
-    for p in 2..=16 {
-        let shape = Shape::one(p, 2, 3, 2 * p).in_edition(Two);
+    for (p, r) in (2..=16).flat_map(|p| [(p, 0), (p, p)]) {
+        let shape = Shape::one(p, 2, 3, 2 * p).reserving(r);
         for k in 1..=p {
             let units: Vec<u64> = (p..p + k).collect();
             for size in edges(p) {
@@ -843,11 +912,17 @@ fn size_edges(give: &mut dyn FnMut(Case)) {
     }
 }
 
-/// Plans for every size at a unit's edge, in both editions; the planner's own
-/// plan is then checked for the same size and for those beside it.
+/// Plans for every size at a unit's edge, in both editions, in edition 2 also
+/// with all units reserved that can be; the planner's own plan is then checked
+/// for the same size and for those beside it.
 fn plan_edges(give: &mut dyn FnMut(Case)) {
-    for (p, edition) in (2..=16).flat_map(|p| Edition::ALL.map(|edition| (p, edition))) {
-        let image = inputs::fresh(&Shape::one(p, 1, 2, 2 * p).in_edition(edition));
+    let shapes = |p: u64| {
+        let one = Shape::one(p, 1, 2, 2 * p);
+        [one, one.in_edition(Two), one.reserving(p)]
+    };
+    for shape in (2..=16).flat_map(shapes) {
+        let p = shape.p;
+        let image = inputs::fresh(&shape);
         for size in edges(p) {
             let mut out = vec![0xA5; inputs::LONGEST_PLAN];
             let planned = model::plan_write(&image, 0, size, &mut out);
@@ -881,14 +956,15 @@ fn convert_to(room: usize, image: Vec<u8>) -> Case {
 }
 
 fn convert_bytes(give: &mut dyn FnMut(Case)) {
-    every_byte(&worked(One), &mut |image| give(convert_to(272, image)));
     // Whatever one byte makes of edition 2, it is not edition 1.
-    every_byte(&worked(Two), &mut |image| give(convert_to(272, image)));
+    for shape in EXAMPLES {
+        every_byte(&worked(shape), &mut |image| give(convert_to(272, image)));
+    }
 }
 
 fn convert_lengths(give: &mut dyn FnMut(Case)) {
-    for edition in Edition::ALL {
-        every_length(&worked(edition), &mut |image| give(convert_to(272, image)));
+    for shape in EXAMPLES {
+        every_length(&worked(shape), &mut |image| give(convert_to(272, image)));
     }
 }
 
@@ -896,7 +972,8 @@ fn convert_lengths(give: &mut dyn FnMut(Case)) {
 /// example and, near the right one, the largest.
 fn convert_buffers(give: &mut dyn FnMut(Case)) {
     let smallest = inputs::fresh(&Shape::one(2, 1, 2, 2));
-    for image in [smallest, example(One), worked(One), worked(Two)] {
+    let two = [TWO, THREE_RESERVED].map(worked);
+    for image in [smallest, example(ONE), worked(ONE)].into_iter().chain(two) {
         for room in 0..=600 {
             give(convert_to(room, image.clone()));
         }
@@ -918,4 +995,174 @@ fn convert_units(give: &mut dyn FnMut(Case)) {
         let room = image.len() + 8 * maps as usize + 8;
         give(convert_to(room, image));
     });
+}
+
+/// Every R up to two past N, the same 2^32 on, and what is near N-P where that
+/// wraps; every N of small volumes from two below P to P·M and one more.
+fn every_r(give: &mut dyn FnMut(Case)) {
+    for (p, c, m) in [(2, 1, 2), (2, 2, 3), (3, 2, 3), (4, 4, 5), (5, 1, 4)] {
+        for n in p - 2..=p * m + 1 {
+            let shape = Shape::one(p, c, m, n);
+            let near = (0..3).map(|past| n.wrapping_sub(p).wrapping_add(past));
+            let far = [TWO_32 - 1, 1 << 31, 1 << 63, u64::MAX - 1, u64::MAX];
+            for r in (0..=n + 2).chain(near).chain(far) {
+                reserve(&shape, r, give);
+                reserve(&shape, r.wrapping_add(TWO_32), give);
+                give(load(inputs::blank(&shape.reserving(r))));
+            }
+            // The number after R is 0, or nothing helps.
+            for r in 0..=n {
+                for last in [1, 1 << 8, 1 << 31, u32::MAX] {
+                    let mut image = inputs::blank(&shape.reserving(r));
+                    let at = image.len() - 4;
+                    image[at..].copy_from_slice(&u32::to_le_bytes(last));
+                    give(case(Call::Shape, image));
+                }
+            }
+        }
+    }
+    for r in (4580..=4610).chain(0..3) {
+        reserve(&largest(4608), r, give);
+        reserve(&largest(4607), r, give);
+    }
+}
+
+/// Every R that the largest volume can have; what is planned begins there.
+fn every_r_largest(give: &mut dyn FnMut(Case)) {
+    for r in 0..=4592 {
+        let image = inputs::blank(&largest(4608).reserving(r));
+        give(plan(&image, 16));
+        if r.is_multiple_of(61) || r % 64 < 2 {
+            counts(&image, 4608 - r, give);
+        }
+        give(load(image));
+    }
+}
+
+/// Two chunks on one unit, and on one or two, each any number up to N, under
+/// every R; what load says of it, and calls that depend on the same maps.
+fn units_under_r(give: &mut dyn FnMut(Case)) {
+    let one = Shape::one(2, 2, 3, 6);
+    let words: Vec<u64> = (0..=6).chain([X]).collect();
+    for r in 0..=4 {
+        let shape = one.reserving(r);
+        for (&a, &b) in words.iter().flat_map(|a| words.iter().map(move |b| (a, b))) {
+            for &c in &words {
+                let mut image = inputs::fresh(&shape);
+                // A dead map with the same words.
+                inputs::put_units(&shape, &mut image, 1, &[a, b]);
+                inputs::put_entry(&mut image, 0, 0);
+                inputs::put_units(&shape, &mut image, 0, &[c]);
+                give(load(image.clone()));
+                inputs::put_entry(&mut image, 1, 2);
+                inputs::put_units(&shape, &mut image, 2, &[a, b]);
+                if b == X {
+                    inputs::put_word(&mut image, shape.word_at(2, 0), UNIT);
+                }
+                give(load(image.clone()));
+                give(case(Call::Shape, image.clone()));
+                give(case(Call::Report, image.clone()));
+                give(case(Call::Held { chunk: 1 }, image.clone()));
+                give(case(Call::AlarmCount { units: 6 - r }, image.clone()));
+                give(plan(&image, 2));
+                give(repair(image));
+            }
+        }
+    }
+}
+
+/// A write of two units, with every unit in DATA and every unit or X in the MAP
+/// words, under every R; unit 7 is held.
+fn plans_under_r(give: &mut dyn FnMut(Case)) {
+    for r in 0..=6 {
+        let shape = Shape::one(3, 2, 3, 9).reserving(r);
+        let mut image = inputs::fresh(&shape);
+        inputs::put_entry(&mut image, 0, 1);
+        inputs::put_units(&shape, &mut image, 1, &[7]);
+        let call = Call::CheckWrite {
+            chunk: 1,
+            size: 8192,
+        };
+        let good = inputs::assemble(&shape, 1, 8192, &[8, 6], 0);
+        for (a, b) in (0..=9).flat_map(|a| (0..=9).map(move |b| (a, b))) {
+            // The same units in both, and any in MAP.
+            let values = || (0..=9).chain([X32]);
+            for (first, second) in values().flat_map(|v| values().map(move |w| (v, w))) {
+                let mut steps = good.clone();
+                (steps[0][1], steps[1][1]) = (a, b);
+                (steps[3][3], steps[4][3]) = (first, second);
+                give(Case {
+                    plan: inputs::encode(&steps),
+                    ..case(call.clone(), image.clone())
+                });
+            }
+        }
+        // After the units, where X is due.
+        for value in 0..=9 {
+            let mut steps = good.clone();
+            steps[5][3] = value;
+            give(Case {
+                plan: inputs::encode(&steps),
+                ..case(call.clone(), image.clone())
+            });
+        }
+    }
+}
+
+/// Volumes with P to (C+1)·P+1 units besides the reserved ones, all held that
+/// chunks can hold, or one or two less; writes of every number of units.
+fn rooms(give: &mut dyn FnMut(Case)) {
+    for (p, c) in (2..=4).flat_map(|p| (1..=3).map(move |c| (p, c))) {
+        for r in [0, 1, p, 2 * p, 3 * p] {
+            for units in p..=(c + 1) * p + 1 {
+                let shape = Shape::one(p, c, c + 5, units + r).reserving(r);
+                let most = units.min(c * p);
+                for held in most - 2..=most {
+                    let image = inputs::with_free(&shape, |unit| unit >= r + held);
+                    for k in 1..=p {
+                        for chunk in 0..c {
+                            let mut planned = plan(&image, k);
+                            planned.call = Call::PlanWrite {
+                                chunk,
+                                size: k * UNIT,
+                            };
+                            give(planned);
+                        }
+                    }
+                    counts(&image, units - held, give);
+                }
+            }
+        }
+    }
+}
+
+/// Every count up to N+1, and every fraction of whole units of N, of N-R, and
+/// next to them, with every number of held units under every R.
+fn alarms(give: &mut dyn FnMut(Case)) {
+    for r in 0..=5 {
+        let shape = Shape::one(2, 3, 4, 7).reserving(r);
+        for held in 0..=(7 - r).min(6) {
+            let image = inputs::with_free(&shape, |unit| unit >= r + held);
+            give(case(Call::Report, image.clone()));
+            for units in 0..=8 {
+                give(case(Call::AlarmCount { units }, image.clone()));
+            }
+            let parts = (0..=7).flat_map(|part| [(part, 7), (part, 7 - r)]);
+            for (part, whole) in parts {
+                let fraction = part as f64 / whole as f64;
+                for bits in -2..=2 {
+                    let fraction = f64::from_bits(fraction.to_bits().wrapping_add_signed(bits));
+                    give(case(Call::AlarmFraction { fraction }, image.clone()));
+                }
+            }
+        }
+    }
+}
+
+/// Two chunks of two words with two of four units reserved: every form of a map
+/// beside every other, with sizes of none to two units.
+fn repair_reserved(give: &mut dyn FnMut(Case)) {
+    let shape = Shape::one(2, 2, 3, 4).reserving(2);
+    let sizes = [0, 4096, 8192, X];
+    every_table(&shape, &[0, 1, 2, 3, 4, X], &sizes, give);
 }

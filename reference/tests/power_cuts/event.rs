@@ -91,6 +91,8 @@ pub enum Hand {
     Other,
     /// A legal plan with one defect that breaks this rule first.
     Damaged(u64),
+    /// A plan that is legal but for reserved units that it writes on.
+    Reserved,
     /// Changed at random: the checker's verdict is followed.
     Mutated,
     /// A plan of an earlier event once more.
@@ -100,13 +102,14 @@ pub enum Hand {
 }
 
 impl Hand {
-    pub const NAMES: [&'static str; 6] = [
+    pub const NAMES: [&'static str; 7] = [
         "the planner's own",
         "legal, another hand",
         "damaged",
         "mutated",
         "replayed",
         "no room, bad request",
+        "on reserved units",
     ];
 
     pub fn index(self) -> usize {
@@ -117,6 +120,7 @@ impl Hand {
             Hand::Mutated => 3,
             Hand::Replayed => 4,
             Hand::Stray => 5,
+            Hand::Reserved => 6,
         }
     }
 }

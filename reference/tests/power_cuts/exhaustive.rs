@@ -16,7 +16,7 @@ use crate::plans::{of_the_other_edition, replace_map, replace_unit, Ground};
 use crate::repaired::{every_image, repaired, Repairs};
 use crate::rules::{carry_step, first, land, landed, Rules};
 use crate::simulate::{Due, Simulator, Violation};
-use crate::volume::{Held, Reading, Volume};
+use crate::volume::{contents, Held, Reading, Volume};
 
 /// Which plans are tried for a request.
 #[derive(Clone, Copy, Debug, PartialEq, Eq)]
@@ -144,7 +144,8 @@ fn old(chunk: usize, piece: usize) -> u64 {
 /// hold its piece of the ledger, whatever that is called; the content of a
 /// free one is in no ledger, and must not be taken for a piece to come.
 fn rename(shape: &Shape, volume: &mut Volume) {
-    volume.units.fill(STALE);
+    // The boot loader's content is the same in all states.
+    volume.units[shape.r as usize..].fill(STALE);
     for chunk in 0..shape.c as usize {
         let held = Held::of(shape, &volume.image, chunk as u64);
         for (piece, &unit) in held.units().iter().enumerate() {
@@ -369,6 +370,7 @@ impl<R: Rules> Explorer<'_, R> {
         }
         self.tally.accepted += 1;
         let steps = decode(&event.plan);
+        simulator.verify_plan(&steps, &mut self.violations);
         self.tally.carried += simulator.carry_each(image, event, &steps, &mut self.violations);
         if self.failed() {
             return false;
@@ -421,6 +423,7 @@ impl<R: Rules> Explorer<'_, R> {
         land(simulator.rules, shape, next, event, steps, landed);
         simulator.settle(volume, next, event, steps, landed, violations);
         simulator.verify_pieces(next, violations);
+        simulator.verify_reserved(next, violations);
         if all_landed.is_some_and(|carried| carried != next.image) {
             violations.push(Violation::NotAsCarried { n: event.n });
         }
@@ -477,7 +480,8 @@ impl<R: Rules> Explorer<'_, R> {
             if failed {
                 return;
             }
-            let units = (1..=shape.n).collect();
+            let mut tags = 1..;
+            let units = contents(shape, || tags.next().expect("as many as there are units"));
             let repairs = &mut self.tally.repairs;
             let mut volume = repaired(simulator, damaged, units, repairs, &mut self.violations);
             if self.scope.renames() && self.violations.is_empty() {

@@ -143,8 +143,14 @@ impl<R: Rules> Source<'_, R> {
             .then(|| plans::legal(rng, &ground, request))
             .flatten();
         let (Some(planned), Some(legal)) = (planned, legal) else {
+            if request.is_good(shape) && rng.chance(50) {
+                // No room, unless what is kept for the boot loader were taken.
+                if let Some(steps) = plans::out_of_reserved(rng, &ground, request) {
+                    return (encode(&steps), Hand::Reserved);
+                }
+            }
             // No room, or a bad request: a plan on any units.
-            let k = rng.between(1, shape.p.min(shape.n));
+            let k = rng.between(1, shape.p);
             let mut units: Vec<u64> = (0..shape.n).collect();
             rng.shuffle(&mut units);
             let map = rng.below(shape.m);
@@ -153,6 +159,10 @@ impl<R: Rules> Source<'_, R> {
             let steps = assemble(shape, chunk, size, &units[..k as usize], map);
             return (encode(&steps), Hand::Stray);
         };
+        if shape.r > 0 && request.size.is_some() && rng.chance(10) {
+            let steps = plans::on_reserved(rng, &ground, &legal);
+            return (encode(&steps), Hand::Reserved);
+        }
         match rng.below(100) {
             0..=29 => (planned, Hand::Planner),
             30..=59 => (encode(&legal), Hand::Other),

@@ -81,6 +81,40 @@ pub fn legal(rng: &mut Rng, ground: &Ground, request: Request) -> Option<Vec<Fie
     Some(steps)
 }
 
+/// A legal write's plan with one or more of its units exchanged for reserved
+/// ones, in DATA and in MAP alike, as far as there are such: rule 2.
+pub fn on_reserved(rng: &mut Rng, ground: &Ground, steps: &[Fields]) -> Vec<Fields> {
+    let shape = ground.shape;
+    let mut steps = steps.to_vec();
+    let mut reserved: Vec<u64> = (0..shape.r).collect();
+    rng.shuffle(&mut reserved);
+    let mut data = of_kind(&steps, DATA);
+    rng.shuffle(&mut data);
+    data.truncate(rng.between(1, data.len() as u64) as usize);
+    for (at, unit) in data.into_iter().zip(reserved) {
+        let old = steps[at][1];
+        replace_unit(shape, &mut steps, old, unit as u32);
+    }
+    steps
+}
+
+/// A write's plan where too few units are free: all of those and reserved ones.
+/// None if these together are too few.
+pub fn out_of_reserved(rng: &mut Rng, ground: &Ground, request: Request) -> Option<Vec<Fields>> {
+    let size = request.size?;
+    let mut units: Vec<u64> = ground.reading.free_units().collect();
+    units.extend(0..ground.shape.r);
+    let k = request.k() as usize;
+    if units.len() < k {
+        return None;
+    }
+    units.truncate(k);
+    rng.shuffle(&mut units);
+    let maps: Vec<u64> = ground.reading.free_maps().collect();
+    let map = rng.pick(&maps);
+    Some(assemble(ground.shape, request.chunk, size, &units, map))
+}
+
 /// A legal write's plan as the other edition has it: the words of its map with a
 /// size before them, or without.
 pub fn of_the_other_edition(ground: &Ground, request: Request, steps: &[Fields]) -> Vec<Fields> {
@@ -220,6 +254,15 @@ fn damage_write(
     let shape = ground.shape;
     if shape.edition == Edition::Two && rng.chance(20) {
         return damage_size(rng, shape, request, steps);
+    }
+    if shape.r > 0 && rng.chance(10) {
+        // A reserved unit in a word of the map alone: "A MAP word with a
+        // reserved unit breaks rule 3" (Decision 76).
+        if is_size(shape, &steps[one_map]) {
+            return None;
+        }
+        steps[one_map][3] = rng.below(shape.r) as u32;
+        return Some(3);
     }
     Some(match rng.below(19) {
         // "Old units counted free for the write that replaces them." (01)

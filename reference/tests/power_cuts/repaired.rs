@@ -2,21 +2,18 @@
 //! repaired image once it is wholly written back and fenced, a chunk with no
 //! landed plan since holding what that image gives it" (02, request 3).
 
-use std::env;
 use std::ops::AddAssign;
-use std::time::Instant;
 
 use sumbilak_reference::inputs::{self, put_word, Shape, X};
 use sumbilak_reference::rng::{mix, Rng};
 
-use crate::exhaustive::{explore, Plans, Scope, Start, Tally};
-use crate::figures::{print, row, table, Figures};
-use crate::lists::{self, Case};
-use crate::rules::{Library, Rules};
+use crate::beginnings::{self, nothing_but, random_lists, Beginning};
+use crate::exhaustive::{Plans, Scope, Start, Tally};
+use crate::rules::Rules;
 use crate::simulate::{Simulator, Violation};
-use crate::volume::{faults, Fault, Volume};
-use crate::{any, name, seed, shape, times, two, volumes, wrong, CHANCES, VOLUME_64K};
-use crate::{LEDGER, LOAD, NO_MAP, TWO_OWNERS};
+use crate::volume::{faults, Fault, Flaw, Reading, Volume};
+use crate::{seed, shape, two, volumes, wrong, VOLUME_64K};
+use crate::{LEDGER, LOAD, NO_MAP, ON_RESERVED, TWO_OWNERS};
 
 /// What was repaired.
 #[derive(Clone, Debug, Default)]
@@ -25,32 +22,13 @@ pub struct Repairs {
     /// Images with a fault of each kind, and with faults of two kinds or more.
     pub kinds: [u64; Fault::NAMES.len()],
     pub several: u64,
+    /// Images in which a chunk has a reserved unit.
+    pub on_reserved: u64,
     /// Chunks in the lists.
     pub unlinked: u64,
     /// Chunks that are mapped in the repaired images, and images with such.
     pub mapped: u64,
     pub with_mapped: u64,
-}
-
-impl Repairs {
-    fn cells(&self) -> Vec<u64> {
-        let mut cells = vec![self.images];
-        cells.extend(self.kinds);
-        cells.extend([self.several, self.unlinked, self.mapped, self.with_mapped]);
-        cells
-    }
-
-    fn titles() -> Vec<&'static str> {
-        let mut titles = vec!["images"];
-        titles.extend(Fault::NAMES);
-        titles.extend([
-            "two kinds or more",
-            "chunks unlinked",
-            "chunks left",
-            "images with such",
-        ]);
-        titles
-    }
 }
 
 impl AddAssign<&Repairs> for Repairs {
@@ -60,6 +38,7 @@ impl AddAssign<&Repairs> for Repairs {
             *sum += more;
         }
         self.several += other.several;
+        self.on_reserved += other.on_reserved;
         self.unlinked += other.unlinked;
         self.mapped += other.mapped;
         self.with_mapped += other.with_mapped;
@@ -86,6 +65,9 @@ pub fn repaired<R: Rules>(
     repairs.images += 1;
     kinds.iter().for_each(|&kind| repairs.kinds[kind] += 1);
     repairs.several += u64::from(kinds.len() > 1);
+    let on_reserved = |flaw: &Flaw| matches!(flaw, Flaw::Reserved { .. });
+    let mut flaws = Reading::of(shape, damaged).flaws.into_iter();
+    repairs.on_reserved += u64::from(flaws.any(|flaw| on_reserved(&flaw)));
     repairs.unlinked += found.len() as u64;
     repairs.mapped += mapped;
     repairs.with_mapped += u64::from(mapped > 0);
@@ -95,24 +77,59 @@ pub fn repaired<R: Rules>(
     simulator.verify(&volume.image, violations);
     simulator.verify_pieces(&volume, violations);
     simulator.verify_sizes(&volume, 0, violations);
+    simulator.verify_reserved(&volume, violations);
     volume
 }
 
-/// Random damage to a random volume, litter in its dead maps, repaired.
-fn start<R: Rules>(
-    simulator: &Simulator<R>,
-    rng: &mut Rng,
-    repairs: &mut Repairs,
-    violations: &mut Vec<Violation>,
-) -> Volume {
-    let full = rng.pick(&[25, 50, 75, 90, 100]);
-    let Volume {
-        mut image, units, ..
-    } = Volume::scattered(rng, &simulator.shape, full);
-    if !rng.chance(3) {
-        inputs::tables_damaged(rng, &simulator.shape, &mut image);
+impl Beginning for Repairs {
+    const NAME: &'static str = "repair";
+    const DONE: &'static str = "repaired";
+
+    fn titles() -> Vec<&'static str> {
+        let mut titles = vec!["images"];
+        titles.extend(Fault::NAMES);
+        titles.extend([
+            "two kinds or more",
+            "reserved unit",
+            "chunks unlinked",
+            "chunks left",
+            "images with such",
+        ]);
+        titles
     }
-    repaired(simulator, &image, units, repairs, violations)
+
+    fn cells(&self) -> Vec<u64> {
+        let mut cells = vec![self.images];
+        cells.extend(self.kinds);
+        cells.extend([self.several, self.on_reserved, self.unlinked]);
+        cells.extend([self.mapped, self.with_mapped]);
+        cells
+    }
+
+    fn images(&self) -> u64 {
+        self.images
+    }
+
+    fn of(tally: &Tally) -> &Self {
+        &tally.repairs
+    }
+
+    /// Random damage to a random volume, litter in its dead maps, repaired.
+    fn start<R: Rules>(
+        &mut self,
+        simulator: &Simulator<R>,
+        rng: &mut Rng,
+        violations: &mut Vec<Violation>,
+    ) -> Volume {
+        let full = rng.pick(&[25, 50, 75, 90, 100]);
+        let Volume {
+            mut image, units, ..
+        } = Volume::scattered(rng, &simulator.shape, full);
+        if !rng.chance(3) {
+            inputs::tables_damaged(rng, &simulator.shape, &mut image);
+        }
+        repaired(simulator, &image, units, self, violations)
+    }
 }
 
 /// Every image of this geometry: each entry a map, X or the least bad link, each
@@ -157,97 +174,26 @@ pub fn every_image(shape: &Shape, give: &mut dyn FnMut(&[u8])) {
     }
 }
 
-fn run<R: Rules>(
-    rules: &R,
-    shape: Shape,
-    lists: u64,
-    seed: u64,
-    tells: &dyn Fn(&Violation) -> bool,
-    repairs: &mut Repairs,
-    figures: &mut Figures,
-) -> Option<Case> {
-    let mut start = |simulator: &Simulator<R>, rng: &mut Rng, violations: &mut Vec<Violation>| {
-        start(simulator, rng, repairs, violations)
-    };
-    lists::run_from(rules, shape, &mut start, lists, seed, tells, figures)
-}
-
 #[test]
 fn random_event_lists_after_a_repair() {
-    let begun = Instant::now();
-    let seed = mix(seed());
-    let mut titles = Repairs::titles();
-    titles.extend(["events", "refused", "finished", "cut", "violations"]);
-    let mut rows = vec![row("volume", &titles)];
-    let mut all = (Repairs::default(), Figures::default());
-    let mut failed: Option<Case> = None;
-    let mut tell = |name: &str, repairs: &Repairs, figures: &Figures| {
-        let mut cells = repairs.cells();
-        cells.extend([
-            figures.events,
-            figures.refused,
-            figures.finished,
-            figures.cut,
-            figures.violations,
-        ]);
-        rows.push(row(name, &cells));
-    };
-
-    for (at, (shape, lists)) in (0..).zip(volumes()) {
-        let (mut repairs, mut figures) = Default::default();
-        let lists = times(lists.div_ceil(4));
-        let seed = mix(seed ^ at);
-        let case = run(
-            &Library,
-            shape,
-            lists,
-            seed,
-            &any,
-            &mut repairs,
-            &mut figures,
-        );
-        failed = failed.or(case);
-        tell(&name(&shape), &repairs, &figures);
-        all.0 += &repairs;
-        all.1 += &figures;
-    }
-    let (mut repairs, mut figures) = Default::default();
-    let mut rng = Rng::new(seed);
-    for _ in 0..times(100) {
-        let shape = inputs::shape(&mut rng);
-        let seed = rng.next_u64();
-        let case = run(&Library, shape, 1, seed, &any, &mut repairs, &mut figures);
-        failed = failed.or(case);
-    }
-    tell("random geometries", &repairs, &figures);
-    all.0 += &repairs;
-    all.1 += &figures;
-    let (repairs, figures) = &all;
-    tell("all", repairs, figures);
-
-    let title = format!(
-        "Random event lists after a repair, seed {seed:#X}, {:.1?}",
-        begun.elapsed()
-    );
-    print(&table(&title, &rows));
-    if let Some(case) = failed {
-        panic!("{case}");
-    }
+    let volumes = volumes().map(|(shape, lists)| (shape, lists.div_ceil(4)));
+    let (repairs, _) = random_lists::<Repairs>(volumes, 100, mix(seed()));
     let seen = |count: u64| 20 * count > repairs.images;
     assert!(repairs.kinds.into_iter().all(seen), "every kind of damage");
     assert!(seen(repairs.several), "several at once");
+    assert!(50 * repairs.on_reserved > repairs.images, "reserved units");
     assert!(4 * repairs.with_mapped > repairs.images, "chunks left");
-    assert!(figures.finished > 100 && figures.cut_linked > 100 && figures.cut_partial > 100);
 }
 
 /// Volumes of which every image is repaired. What a repair leaves are all sound
 /// images, so that lists of any length go from one of them to another.
-const EVERY_IMAGE: [Scope; 5] = [
+const EVERY_IMAGE: [Scope; 6] = [
     from_every_image(shape(2, 1, 2, 2), Plans::EveryChoice),
     from_every_image(shape(2, 1, 2, 3), Plans::EveryChoice),
     from_every_image(shape(2, 2, 3, 2), Plans::EveryChoice),
     from_every_image(two(2, 1, 2, 2), Plans::EveryChoice),
     from_every_image(two(2, 1, 2, 3), Plans::Two),
+    from_every_image(two(2, 1, 2, 3).reserving(1), Plans::EveryChoice),
 ];
 
 const fn from_every_image(shape: Shape, plans: Plans) -> Scope {
@@ -261,82 +207,13 @@ const fn from_every_image(shape: Shape, plans: Plans) -> Scope {
 
 #[test]
 fn every_image_of_small_volumes_repaired() {
-    let begun = Instant::now();
-    let mut titles = Repairs::titles();
-    titles.extend(["states", "deepest", "subsets", "events", "violations"]);
-    let mut rows = vec![row("volume", &titles)];
-    let mut all = Tally::default();
-    let mut failed = None;
-    let mut tell = |name: &str, tally: &Tally| {
-        let mut cells = tally.repairs.cells();
-        cells.extend([
-            tally.states,
-            tally.deepest as u64,
-            tally.subsets,
-            tally.events,
-            tally.violations,
-        ]);
-        rows.push(row(name, &cells));
-    };
-    for scope in &EVERY_IMAGE {
-        if cfg!(debug_assertions) && scope.shape.c > 1 {
-            break;
-        }
-        let (tally, case) = explore(&Library, scope, &any);
-        failed = failed.or(case);
-        tell(&name(&scope.shape), &tally);
-        all += &tally;
-    }
-    tell("all", &all);
-    let title = format!(
-        "Every image of small volumes, repaired, {:.1?}",
-        begun.elapsed()
-    );
-    print(&table(&title, &rows));
-    if let Some(case) = failed {
-        panic!("{case}");
-    }
+    beginnings::every_image_of::<Repairs>(&EVERY_IMAGE);
 }
 
-/// Runs a wrong repair until each of these violations is seen, by random lists
-/// on the 64 KB volume and from every image of a small one. The library's passes
-/// the same lists. With `SUMBILAK_STORIES` set the lists are printed.
+/// Runs a wrong repair until each of these violations is seen.
 fn notice<R: Rules>(rule: &str, rules: &R, violations: &[&str]) {
-    let mut rows = vec![row("violation", &["random list", "every image, number"])];
-    let mut stories = String::new();
-    for &violation in violations {
-        let tells = |seen: &Violation| seen.name() == violation;
-        let (mut repairs, mut figures) = Default::default();
-        let case = run(
-            rules,
-            VOLUME_64K,
-            CHANCES,
-            seed(),
-            &tells,
-            &mut repairs,
-            &mut figures,
-        );
-        let case = case.unwrap_or_else(|| panic!("{rule}, {violation}: not noticed"));
-        let (mut control, mut events) = Default::default();
-        let right = run(
-            &Library,
-            VOLUME_64K,
-            repairs.images,
-            seed(),
-            &any,
-            &mut control,
-            &mut events,
-        );
-        assert!(right.is_none(), "{rule}: the right repair fails as well");
-        let (tally, found) = explore(rules, &EVERY_IMAGE[2], &tells);
-        let found = found.unwrap_or_else(|| panic!("{rule}, {violation}: not exhaustively"));
-        rows.push(row(violation, &[repairs.images, tally.repairs.images]));
-        stories += &format!("\n{case}\n{found}");
-    }
-    print(&table(&format!("Noticed: {rule}"), &rows));
-    if env::var_os("SUMBILAK_STORIES").is_some() {
-        print(&stories);
-    }
+    let scope = &EVERY_IMAGE[2];
+    beginnings::notice::<Repairs, _>(rule, rules, VOLUME_64K, scope, violations);
 }
 
 const REPAIR: &str = "repair";
@@ -385,6 +262,19 @@ fn a_repair_not_wholly_written_back_is_caught() {
     );
 }
 
+/// "and a repair unlinks that chunk" (Decision 75), whose map has a reserved unit.
+#[test]
+fn a_repair_that_leaves_a_chunk_on_a_reserved_unit_is_caught() {
+    let rules = wrong::Repair(wrong::repair_with_reserved_units);
+    beginnings::notice::<Repairs, _>(
+        "chunks on reserved units left in place",
+        &rules,
+        VOLUME_64K.reserving(3),
+        &EVERY_IMAGE[5],
+        &[ON_RESERVED, LOAD, REPAIR],
+    );
+}
+
 /// What no event list can give away, because the image is sound: that one side
 /// of a clash has stayed, that a good chunk went, or that a dead map changed.
 /// The request's own words on the list and on the bytes do.
@@ -399,17 +289,6 @@ fn a_repair_of_other_chunks_or_bytes_is_caught() {
     for (rule, repair) in repairs {
         let rules = wrong::Repair(repair);
         notice(rule, &rules, &[REPAIR]);
-        let others = |seen: &Violation| seen.name() != REPAIR;
-        let (mut repairs, mut figures) = Default::default();
-        let case = run(
-            &rules,
-            VOLUME_64K,
-            20,
-            seed(),
-            &others,
-            &mut repairs,
-            &mut figures,
-        );
-        assert!(case.is_none(), "{rule}: the image is sound");
+        nothing_but::<Repairs, _>(rule, &rules, VOLUME_64K, REPAIR);
     }
 }

@@ -9,7 +9,7 @@ use sumbilak_reference::inputs::{
 };
 use sumbilak_reference::model::{self, Loaded, Refusal};
 
-use crate::event::{Event, Hand, Request, LINK};
+use crate::event::{Event, Hand, Request, DATA, LINK};
 use crate::figures::Figures;
 use crate::rules::{carry_step, first, land, landed, Rules};
 use crate::volume::{faults, stored, Flaw, Held, Reading, Volume};
@@ -29,6 +29,10 @@ pub enum Violation {
     Flaw(Flaw),
     /// "the trailer's bytes never change" (Decision 24).
     Trailer,
+    /// A reserved unit with another content than the boot loader's.
+    Overwritten { unit: u64, holds: u64 },
+    /// A plan that passed, with a DATA step on a reserved unit.
+    ReservedData { unit: u64 },
     /// Load's free sets are not what no named map holds.
     FreeSet { unit: Option<u64>, map: Option<u64> },
     /// A chunk does not hold what the ledger gives it.
@@ -94,9 +98,12 @@ impl Violation {
             Violation::Flaw(Flaw::Link { .. }) => "bad link",
             Violation::Flaw(Flaw::Map { .. }) => "a map that is not there",
             Violation::Flaw(Flaw::Size { .. }) => "a size of other units",
+            Violation::Flaw(Flaw::Reserved { .. }) => "a chunk on a reserved unit",
             Violation::Flaw(Flaw::MapTwice { .. }) => "map with two owners",
             Violation::Flaw(Flaw::UnitTwice { .. }) => "unit with two owners",
             Violation::Trailer => "trailer changed",
+            Violation::Overwritten { .. } => "reserved unit overwritten",
+            Violation::ReservedData { .. } => "reserved unit planned",
             Violation::FreeSet { .. } => "free set",
             Violation::Ledger { .. } => "not what the ledger gives",
             Violation::StoredSize { .. } => "another stored size",
@@ -124,6 +131,7 @@ impl Violation {
                 | Violation::Carry { .. }
                 | Violation::Planner { .. }
                 | Violation::Verdict { .. }
+                | Violation::ReservedData { .. }
                 | Violation::Repair { .. }
                 | Violation::Convert { .. }
                 | Violation::Answer { .. }
@@ -265,8 +273,8 @@ impl<'a, R: Rules> Simulator<'a, R> {
     }
 
     /// Asks the planner, and holds its answer to 01: the k lowest free units,
-    /// the lowest free map, 9 only if fewer than k units are free. "With N at
-    /// least (C+1)·P it never does for one write."
+    /// the lowest free map, 9 only if fewer than k units are free. "Refusal 9
+    /// never occurs for one write when N-R is at least (C+1)·P." (02, request 5)
     pub fn plan(
         &self,
         image: &[u8],
@@ -291,7 +299,7 @@ impl<'a, R: Rules> Simulator<'a, R> {
                 Ok(assemble(shape, request.chunk, size, &units, map))
             }
         };
-        let room_for_one = shape.n < (shape.c + 1) * shape.p || answer.number != 9;
+        let room_for_one = !shape.has_room() || answer.number != 9;
         let length = LONGEST_PLAN.min(16 * answer.value.min(64) as usize);
         let good = match &due {
             Ok(steps) => answer.number == 0 && encode(steps) == out[..length],
@@ -432,6 +440,7 @@ impl<'a, R: Rules> Simulator<'a, R> {
             },
             None => {
                 let steps = decode(&event.plan);
+                self.verify_plan(&steps, violations);
                 figures.carried += self.carry_each(&before.image, event, &steps, violations);
                 let n = event.n as usize;
                 let landed = landed(self.rules, &steps, n, event.choice);
@@ -451,6 +460,7 @@ impl<'a, R: Rules> Simulator<'a, R> {
         self.verify(&volume.image, violations);
         self.verify_pieces(volume, violations);
         self.verify_sizes(volume, event.request.chunk, violations);
+        self.verify_reserved(volume, violations);
         if R::RIGHT {
             self.verify_answers(&volume.image, event.request.chunk, violations);
         }
@@ -463,6 +473,8 @@ impl<'a, R: Rules> Simulator<'a, R> {
         let (due, good) = match event.hand {
             Hand::Planner | Hand::Other => (Due::Pass, triple(answer) == [0; 3]),
             Hand::Damaged(rule) => (Due::Refuse { rule }, triple(answer) == [11, rule, 0]),
+            // "A DATA step on a reserved unit breaks rule 2" (Decision 76).
+            Hand::Reserved => (Due::Refuse { rule: 2 }, triple(answer) == [11, 2, 0]),
             _ => return,
         };
         if !good {
@@ -555,6 +567,13 @@ impl<'a, R: Rules> Simulator<'a, R> {
 
         let mut words = [0; LOAD_WORDS];
         let answer = self.rules.load(&self.shape, image, &mut words);
+        if answer.number == 0 && answer.value != self.shape.r {
+            violations.push(Violation::Answer {
+                call: "load's value",
+                answer: [answer.value, 0, 0],
+                due: [self.shape.r, 0, 0],
+            });
+        }
         if answer.number != 0 {
             violations.push(Violation::Load { answer });
         } else if words != due {
@@ -568,9 +587,10 @@ impl<'a, R: Rules> Simulator<'a, R> {
                 map: differing(76, LOAD_WORDS),
             });
         }
+        let model_differs = |loaded: &Loaded| words_of(loaded) != due || loaded.r != self.shape.r;
         match model::load(image) {
             Err(refusal) => violations.push(Violation::Model { refusal }),
-            Ok(loaded) if words_of(&loaded) != due => violations.push(Violation::Answer {
+            Ok(loaded) if model_differs(&loaded) => violations.push(Violation::Answer {
                 call: "the model's load",
                 answer: [0; 3],
                 due: [0; 3],
@@ -620,20 +640,56 @@ impl<'a, R: Rules> Simulator<'a, R> {
         }
     }
 
-    /// The report's counts and the held words of the event's chunk.
+    /// "Sumbilak accepts no plan that writes there" (Decision 80): none of an
+    /// accepted plan's DATA steps is on a reserved unit.
+    pub fn verify_plan(&self, steps: &[Fields], violations: &mut Vec<Violation>) {
+        for step in steps.iter().filter(|step| step[0] == DATA) {
+            let unit = u64::from(step[1]);
+            if unit < self.shape.r {
+                violations.push(Violation::ReservedData { unit });
+            }
+        }
+    }
+
+    /// "what each reserved unit held at the start it holds at the end" (Decision
+    /// 80).
+    pub fn verify_reserved(&self, volume: &Volume, violations: &mut Vec<Violation>) {
+        if let Some(unit) = volume.overwritten(&self.shape) {
+            let holds = volume.units[unit as usize];
+            violations.push(Violation::Overwritten { unit, holds });
+        }
+    }
+
+    /// The report's counts, an alarm on either side of what is free, the shape,
+    /// and the held words of the event's chunk.
     fn verify_answers(&self, image: &[u8], chunk: u64, violations: &mut Vec<Violation>) {
+        let mut same = |call: &'static str, answer: [u64; 3], due: [u64; 3]| {
+            if answer != due {
+                violations.push(Violation::Answer { call, answer, due });
+            }
+        };
+        let Shape { n, r, .. } = self.shape;
         let reading = Reading::of(&self.shape, image);
         let report = ffi::report(image);
         let free = reading.free_units().count() as u64;
         let mapped = reading.named_maps().count() as u64;
-        let due = [0, mapped, free];
-        if [report.number, report.mapped, report.free] != due {
-            violations.push(Violation::Answer {
-                call: "report",
-                answer: [report.number, report.mapped, report.free],
-                due,
-            });
+        let answer = [report.number, report.mapped, report.free];
+        same("report", answer, [0, mapped, free]);
+        // "together they are N-R" (Decision 77).
+        let answer = [report.held, report.held + report.free, report.second];
+        same(
+            "report's held units",
+            answer,
+            [reading.held_units(), n - r, 0],
+        );
+        for (units, sounds) in [(free, 0), (free + 1, 1)] {
+            let alarm = ffi::alarm_count(image, units);
+            let answer = [alarm.number, alarm.value, alarm.extent];
+            same("alarm", answer, [0, sounds, 0]);
         }
+        let shape = ffi::shape(image);
+        let due = [self.shape.edition.number(), n, r];
+        same("shape", [shape.edition, shape.n, shape.r], due);
         if chunk < self.shape.c {
             let map = entry(image, chunk);
             let k = Held::of(&self.shape, image, chunk).units().len() as u64;
@@ -643,11 +699,7 @@ impl<'a, R: Rules> Simulator<'a, R> {
                 [0, self.shape.unit_at(map, 0) as u64, 8 * k]
             };
             let held = ffi::held(image, chunk);
-            let answer = [held.number, held.value, held.extent];
-            if answer != due {
-                let call = "held";
-                violations.push(Violation::Answer { call, answer, due });
-            }
+            same("held", [held.number, held.value, held.extent], due);
         }
     }
 }

@@ -10,6 +10,22 @@ use sumbilak_reference::rng::Rng;
 /// "P units make a chunk, 2 to 16." (01)
 pub const MOST_PIECES: usize = 16;
 
+/// What a reserved unit holds from the start on: the boot loader's content, which
+/// no payload has.
+pub fn boot(unit: u64) -> u64 {
+    0xB007_0000_0000_0000 + unit
+}
+
+/// The contents of the units at the start: the boot loader's in the reserved
+/// ones, "anything" (01) in the others.
+pub fn contents(shape: &Shape, mut content: impl FnMut() -> u64) -> Vec<u64> {
+    let of_unit = |unit| match unit < shape.r {
+        true => boot(unit),
+        false => content(),
+    };
+    (0..shape.n).map(of_unit).collect()
+}
+
 /// Image, units and ledger. "Each event gets image and units as the last one
 /// left them; nobody else writes them meanwhile." (01)
 #[derive(Debug, PartialEq, Eq, Hash)]
@@ -49,18 +65,17 @@ impl Volume {
     /// "It starts from the image that format writes." "A unit's content is
     /// anything at the start"; the ledger gives "at the start nothing" (01).
     pub fn formatted(shape: &Shape, content: impl FnMut() -> u64) -> Self {
-        let Shape { p, c, m, n, .. } = *shape;
+        let Shape { p, c, m, n, r, .. } = *shape;
         // Format has to write every byte, so it starts on some that are wrong.
         let mut image = vec![0x5A; shape.image_len()];
         let answer = match shape.edition {
             Edition::One => ffi::format(&mut image, p, c, m, n),
-            Edition::Two => ffi::format2(&mut image, p, c, m, n, 0),
+            Edition::Two => ffi::format2(&mut image, p, c, m, n, r),
         };
         assert_eq!(answer.number, 0, "format of {shape:?}");
-        let mut content = content;
         Volume {
             image,
-            units: (0..n).map(|_| content()).collect(),
+            units: contents(shape, content),
             ledger: vec![Vec::new(); c as usize],
             sizes: vec![0; c as usize],
         }
@@ -71,13 +86,13 @@ impl Volume {
     /// `full` percent of the units held, dead maps with anything in them.
     pub fn scattered(rng: &mut Rng, shape: &Shape, full: u64) -> Self {
         let mut volume = Volume::formatted(shape, || rng.next_u64());
-        let mut units: Vec<u64> = (0..shape.n).collect();
+        let mut units: Vec<u64> = shape.units().collect();
         let mut maps: Vec<u64> = (0..shape.m).collect();
         let mut chunks: Vec<u64> = (0..shape.c).collect();
         rng.shuffle(&mut units);
         rng.shuffle(&mut maps);
         rng.shuffle(&mut chunks);
-        units.truncate((shape.n * full / 100) as usize);
+        units.truncate(units.len() * full as usize / 100);
         for &chunk in &chunks {
             if units.is_empty() {
                 break;
@@ -120,6 +135,13 @@ impl Volume {
         }
     }
 
+    /// The first reserved unit that does not hold the boot loader's content any
+    /// more: "what each reserved unit held at the start it holds at the end"
+    /// (Decision 80).
+    pub fn overwritten(&self, shape: &Shape) -> Option<u64> {
+        (0..shape.r).find(|&unit| self.units[unit as usize] != boot(unit))
+    }
+
     pub fn trailer(&self, shape: &Shape) -> &[u8] {
         &self.image[self.image.len() - shape.trailer_len()..]
     }
@@ -158,7 +180,7 @@ impl Held {
         if map < shape.m {
             for at in 0..shape.p {
                 let unit = word(image, shape.unit_at(map, at));
-                if unit >= shape.n {
+                if !shape.is_unit(unit) {
                     break;
                 }
                 held.units[held.len] = unit as usize;
@@ -193,6 +215,8 @@ pub enum Flaw {
     Link { chunk: u64 },
     /// "each named map holds 1 to P units below N, then only X"
     Map { chunk: u64 },
+    /// "Units below R are never free and never held" (02, request 5).
+    Reserved { chunk: u64, unit: u64 },
     /// "A sound map has k equal to the size rounded up in units" (02,
     /// request 4).
     Size { chunk: u64 },
@@ -233,8 +257,12 @@ impl Reading {
             }
             let held = Held::of(shape, image, second);
             let k = held.units().len() as u64;
-            let rest_absent = (k..shape.p).all(|at| word(image, shape.unit_at(map, at)) == X);
-            if k == 0 || !rest_absent {
+            // From the first word on that is no unit.
+            let rest = || (k..shape.p).map(|at| word(image, shape.unit_at(map, at)));
+            if let Some(unit) = rest().next().filter(|&word| word < shape.r) {
+                let chunk = second;
+                reading.flaws.push(Flaw::Reserved { chunk, unit });
+            } else if k == 0 || rest().any(|word| word != X) {
                 reading.flaws.push(Flaw::Map { chunk: second });
             } else if !held.size_fits() {
                 reading.flaws.push(Flaw::Size { chunk: second });
@@ -253,9 +281,15 @@ impl Reading {
         reading
     }
 
-    /// "Held units are those in named maps; all others are free." (01)
+    /// "Held units are those in named maps; all others are free" (01), but for
+    /// the reserved ones.
     pub fn free_units(&self) -> impl Iterator<Item = u64> + '_ {
-        (0..self.shape.n).filter(|&unit| self.unit_owner[unit as usize].is_none())
+        let units = self.shape.units();
+        units.filter(|&unit| self.unit_owner[unit as usize].is_none())
+    }
+
+    pub fn held_units(&self) -> u64 {
+        self.unit_owner.iter().flatten().count() as u64
     }
 
     /// "The same for maps." (01)

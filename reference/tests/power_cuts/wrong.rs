@@ -181,7 +181,8 @@ impl Rules for GreedyPlanner {
             .filter(|&chunk| chunk != request.chunk)
             .flat_map(|chunk| Held::of(shape, image, chunk).units().to_vec())
             .collect();
-        let free: Vec<u64> = (0..shape.n)
+        let units = shape.units();
+        let free: Vec<u64> = units
             .filter(|&unit| !held.contains(&(unit as usize)))
             .collect();
         plan_on(shape, image, request, &free, out)
@@ -223,7 +224,8 @@ impl AllMaps {
                 }
             }
         }
-        (0..shape.n).filter(|&unit| free[unit as usize]).collect()
+        let units = shape.units();
+        units.filter(|&unit| free[unit as usize]).collect()
     }
 }
 
@@ -265,7 +267,8 @@ impl SizeAsUnit {
                 }
             }
         }
-        (0..shape.n).filter(|&unit| free[unit as usize]).collect()
+        let units = shape.units();
+        units.filter(|&unit| free[unit as usize]).collect()
     }
 }
 
@@ -405,6 +408,70 @@ pub fn convert_in_reverse(one: &Shape, image: &[u8], out: &mut [u8]) -> CAnswer 
     answer
 }
 
+/// Reserves the first unit.
+pub fn convert_and_reserve(_: &Shape, image: &[u8], out: &mut [u8]) -> CAnswer {
+    let answer = ffi::convert(image, out);
+    put_reserved(out, 1);
+    answer
+}
+
+/// Writes R into an image of edition 2.
+fn put_reserved(image: &mut [u8], r: u32) {
+    let at = image.len() - 8;
+    image[at..at + 4].copy_from_slice(&r.to_le_bytes());
+}
+
+/// The image as if nothing were reserved.
+fn unreserved(image: &[u8]) -> Vec<u8> {
+    let mut image = image.to_vec();
+    put_reserved(&mut image, 0);
+    image
+}
+
+/// A checker to which reserved units are free.
+pub fn with_reserved_units_free(_: &Shape, image: &[u8], request: Request, plan: &[u8]) -> CAnswer {
+    check(&unreserved(image), request, plan)
+}
+
+/// A loader and a planner to which reserved units are free; the checker is right
+/// or goes along with them.
+pub struct ReservedFree {
+    pub checker_agrees: bool,
+}
+
+impl Rules for ReservedFree {
+    fn load(&self, shape: &Shape, image: &[u8], out: &mut [u64]) -> CAnswer {
+        CAnswer {
+            value: shape.r,
+            ..ffi::load(&unreserved(image), out)
+        }
+    }
+
+    fn plan(&self, shape: &Shape, image: &[u8], request: Request, out: &mut [u8]) -> CAnswer {
+        Library.plan(shape, &unreserved(image), request, out)
+    }
+
+    fn check(&self, shape: &Shape, image: &[u8], request: Request, plan: &[u8]) -> CAnswer {
+        if self.checker_agrees {
+            with_reserved_units_free(shape, image, request, plan)
+        } else {
+            check(image, request, plan)
+        }
+    }
+
+    fn carry(
+        &self,
+        shape: &Shape,
+        image: &mut [u8],
+        request: Request,
+        plan: &[u8],
+        n: u64,
+    ) -> CAnswer {
+        let verdict = self.check(shape, image, request, plan);
+        carry_as_judged(shape, image, plan, n, verdict)
+    }
+}
+
 /// A loader that, "on a double claim", unmaps the earlier chunk and goes on.
 pub fn let_the_later_chunk_win(shape: &Shape, image: &mut [u8]) {
     for _ in 0..shape.c {
@@ -538,6 +605,14 @@ pub fn repair_with_bad_maps(shape: &Shape, image: &mut [u8], out: &mut [u8]) -> 
 
 pub fn repair_with_bad_links(shape: &Shape, image: &mut [u8], out: &mut [u8]) -> CAnswer {
     repair_but(&[Fault::Link], shape, image, out)
+}
+
+/// Repairs all but maps that are bad by a reserved unit alone.
+pub fn repair_with_reserved_units(shape: &Shape, image: &mut [u8], out: &mut [u8]) -> CAnswer {
+    let all = Shape { r: 0, ..*shape };
+    let found = faults(&all, image).into_iter();
+    let chunks: Vec<u64> = found.map(|(chunk, _)| chunk).collect();
+    unlink(image, &chunks, out)
 }
 
 /// Unlinks what is bad by itself; then goes over the chunks in this order, and

@@ -5,22 +5,7 @@ use super::*;
 
 /// The volume of 01's example in edition 2.
 fn small2() -> Vec<u8> {
-    fresh2(4, 4, 5, 20)
-}
-
-fn fresh2(p: u64, c: u64, m: u64, n: u64) -> Vec<u8> {
-    let mut image = vec![0; (8 * c + 8 * m * (p + 1) + 40) as usize];
-    format2(&mut image, p, c, m, n, 0).expect("a good geometry");
-    image
-}
-
-/// Links a chunk of the small volume to a map with this size and these units.
-fn set2(image: &mut [u8], chunk: usize, map: usize, size: u64, units: [u64; 4]) {
-    put(image, chunk, map as u64);
-    put(image, 4 + 5 * map, size);
-    for (i, unit) in units.into_iter().enumerate() {
-        put(image, 4 + 5 * map + 1 + i, unit);
-    }
+    fresh2([4, 4, 5, 20, 0])
 }
 
 fn before_third2() -> Vec<u8> {
@@ -113,7 +98,7 @@ fn fresh_volume_of_edition_2_is_all_free() {
 /// write has k+P+4 steps: at most 36.
 #[test]
 fn the_largest_image_of_edition_2() {
-    let mut image = fresh2(16, 256, 288, 4608);
+    let mut image = fresh2([16, 256, 288, 4608, 0]);
     assert_eq!(image.len(), 41_256);
     assert_eq!(image.len(), MAX_IMAGE2_LEN);
     for chunk in 0..256 {
@@ -348,7 +333,8 @@ fn which_edition_an_image_has() {
     assert_eq!(load(&image), Err(refusal(3, 0)));
 }
 
-/// "edition 1's fields, then two u32 that must be 0, else 3".
+/// "edition 1's fields, then two u32", the second of which must be 0, else 3;
+/// the first is R (request 5).
 #[test]
 fn every_field_of_the_trailer_counts() {
     for at in (238..240).chain(240..272) {
@@ -356,21 +342,22 @@ fn every_field_of_the_trailer_counts() {
             let mut image = worked2();
             image[at] ^= 1 << bit;
             // N is checked against P and P·M only: 20 becomes a smaller good
-            // number, and unit 4 is held.
+            // number, and unit 4 is held. R may be up to 16: chunk 0 holds
+            // units 3 and 4, chunk 2 units 0 and 1.
             let due = match (at, bit) {
                 (248, 2) => Ok(()),
                 (248, 4) => Err(refusal(5, 0)),
+                (264, 0 | 1) => Err(refusal(5, 2)),
+                (264, 2..=4) => Err(refusal(5, 0)),
                 _ => Err(refusal(3, 0)),
             };
             assert_eq!(load(&image).map(|_| ()), due, "{at} {bit}");
         }
     }
-    for at in [264, 268] {
-        for value in [1, 1 << 16, u32::MAX] {
-            let mut image = worked2();
-            put32(&mut image, at, value);
-            assert_eq!(load(&image), Err(refusal(3, 0)));
-        }
+    for value in [1, 1 << 16, u32::MAX] {
+        let mut image = worked2();
+        put32(&mut image, 268, value);
+        assert_eq!(load(&image), Err(refusal(3, 0)));
     }
     // Slack before the image, and an image of the other edition's length.
     let mut slack = vec![0xFF; 8];
@@ -383,8 +370,8 @@ fn every_field_of_the_trailer_counts() {
     assert_eq!(load(&other), Err(refusal(3, 0)));
 }
 
-/// "Format of edition 2 takes R from the start, which must be 0 here, else 3"
-/// (Decision 71). "The limits of P, C, M and N are edition 1's" (63).
+/// "The limits of P, C, M and N are edition 1's" (Decision 63). R is request
+/// 5's.
 #[test]
 fn format_of_edition_2() {
     let try_format = |p: u64, c: u64, m: u64, n: u64, r: u64| {
@@ -395,9 +382,6 @@ fn format_of_edition_2() {
         answer
     };
     assert_eq!(try_format(4, 4, 5, 20, 0), Ok(()));
-    for r in [1, 2, 16, 1 << 32, u64::MAX] {
-        assert_eq!(try_format(4, 4, 5, 20, r), Err(refusal(3, 0)));
-    }
     for (p, c, m, n) in [(2, 1, 2, 2), (16, 1, 33, 16), (16, 256, 288, 4608)] {
         assert_eq!(try_format(p, c, m, n, 0), Ok(()));
     }
@@ -445,7 +429,7 @@ fn rule_1_in_edition_2() {
         assert_eq!(check_third2(&steps), Err(refusal(11, 1)), "{step:?}");
     }
     // The largest volume's word 16, and its longest plan with fences.
-    let image = fresh2(16, 1, 2, 16);
+    let image = fresh2([16, 1, 2, 16, 0]);
     let mut steps = planned(&image, 0, 65_536);
     assert_eq!(steps.len(), 36 * STEP);
     while steps.len() < 64 * STEP {
