@@ -186,12 +186,12 @@ sumbilak_answer sumbilak_repair(uint8_t *image, size_t len, uint8_t *out, size_t
  * Refuses with 1; with 2 whatever is not read as edition 1, an image of edition 2 too; with 3 to 6; and with 10 for a buffer of any other length. */
 sumbilak_answer sumbilak_convert(const uint8_t *image, size_t len, uint8_t *out, size_t out_len);
 
-/* Counts of the volume and two ratios, each one rounded division; held / N has the reserved units in its N. Refuses with 1 to 6. */
+/* Counts of the volume and two ratios, each one rounded division; N counts the reserved units too. Refuses with 1 to 6. */
 sumbilak_report_answer sumbilak_report(const uint8_t *image, size_t len);
 
 /* Whether fewer units are free than a level. value: 1 sounds, 0 silent. The level is a count of units, or a fraction of N from 0 to 1, whose product with
- * N is rounded once. The reserved units are counted in N, and never as free: a fraction above (N - R) / N always sounds. Refuses with 1 to 6, and a
- * fraction with 12. */
+ * N is rounded once. The reserved units are counted in N, and never as free: where that product is above N - R, the alarm always sounds. Refuses with 1
+ * to 6, and a fraction with 12. */
 sumbilak_answer sumbilak_alarm_count(const uint8_t *image, size_t len, uint64_t units);
 sumbilak_answer sumbilak_alarm_fraction(const uint8_t *image, size_t len, double fraction);
 
