@@ -640,8 +640,8 @@ impl<'a, R: Rules> Simulator<'a, R> {
         }
     }
 
-    /// "Sumbilak accepts no plan that writes there" (Decision 80): none of an
-    /// accepted plan's DATA steps is on a reserved unit.
+    /// "no accepted plan has a DATA step there" (Decision 80): on a reserved
+    /// unit.
     pub fn verify_plan(&self, steps: &[Fields], violations: &mut Vec<Violation>) {
         for step in steps.iter().filter(|step| step[0] == DATA) {
             let unit = u64::from(step[1]);
@@ -651,7 +651,7 @@ impl<'a, R: Rules> Simulator<'a, R> {
         }
     }
 
-    /// "what each reserved unit held at the start it holds at the end" (Decision
+    /// "a reserved unit holds at the end what it held at the start" (Decision
     /// 80).
     pub fn verify_reserved(&self, volume: &Volume, violations: &mut Vec<Violation>) {
         if let Some(unit) = volume.overwritten(&self.shape) {

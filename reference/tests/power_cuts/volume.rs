@@ -136,7 +136,7 @@ impl Volume {
     }
 
     /// The first reserved unit that does not hold the boot loader's content any
-    /// more: "what each reserved unit held at the start it holds at the end"
+    /// more: "a reserved unit holds at the end what it held at the start"
     /// (Decision 80).
     pub fn overwritten(&self, shape: &Shape) -> Option<u64> {
         (0..shape.r).find(|&unit| self.units[unit as usize] != boot(unit))

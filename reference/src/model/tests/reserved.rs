@@ -98,8 +98,8 @@ fn the_limits_of_r_in_format() {
         ] {
             assert_eq!(try_format([p, c, m, n, r]), Err(refusal(3, 0)));
         }
-        // "P to P·M holds for N first [..] so that N below P gives 3 and
-        // nothing wraps" (Decision 74).
+        // "N is compared with P and P·M first [..] so that N below P gives 3
+        // and nothing wraps" (Decision 74).
         for n in (0..p).chain([p * m + 1]) {
             for r in [0, 1, n, n.wrapping_sub(p), n.wrapping_sub(p) - 1, u64::MAX] {
                 assert_eq!(try_format([p, c, m, n, r]), Err(refusal(3, 0)));
