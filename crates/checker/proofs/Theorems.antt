@@ -19,7 +19,7 @@ use Rattle.image.specs.Soundness.{Sound}
 use Rattle.image.specs.Verdicts.{verdict}
 use Rattle.image.specs.Rows.{Row}
 use Rattle.image.specs.Answers.{ifSound}
-use Rattle.image.proofs.Room.{freeUnit-past}
+use Rattle.image.proofs.Room.{freeUnit-unreserved}
 use Rattle.image.proofs.Theorems.{passed-is-sound, sound-is-passed, refused-is-row, row-is-refused}
 use Rattle.steps.specs.declared.Step.{Step}
 use Rattle.steps.specs.declared.Step.the-variants.{Data}
@@ -187,5 +187,5 @@ module _ (s : List ℕ) (r : Request) (plan : List ℕ) where
 pub spares-reserved : (s : List ℕ) (r : Request) (plan : List ℕ) → Bytes s → checked s r plan ≡ Accepted
     → (i u j w : ℕ) → At (stepsOf plan) i (Data u j w) → shapeOf s .r ≤ u
 spares-reserved s (Write c size) plan b e i u j w x =
-    freeUnit-past s u (accepted-is-kept s (Write c size) plan b e .2 2 .free-units i u j w x)
+    freeUnit-unreserved s u (accepted-is-kept s (Write c size) plan b e .2 2 .free-units i u j w x)
 spares-reserved s (Discard c) plan b e i u j w x = absurd (accepted-is-kept s (Discard c) plan b e .2 2 i u j w x)

@@ -16,7 +16,7 @@ use Rattle.layout.specs.declared.Refusal.{Refusal}
 use Rattle.layout.specs.declared.Refusal.the-variants.{Short, Foreign, Small}
 use Rattle.layout.specs.Layout.{unitBytes, firstEdition, lastEdition, mapWords, wordAt, mapWordPlace, trailerBytes, imageBytes, knownAs, editionOf, shapeOf, linkOf}
 use Rattle.layout.specs.Shaped.{mapOf}
-use Rattle.layout.proofs.Limits.{shape-edition, fitting-limits, map-words, unit-past, between-unit}
+use Rattle.layout.proofs.Limits.{shape-edition, fitting-limits, map-words, unit-unreserved, between-unit}
 use Rattle.image.specs.declared.Verdict.{Verdict}
 use Rattle.image.specs.declared.Verdict.the-variants.{Refused as VerdictRefused, Passed}
 use Rattle.image.specs.Soundness.{Named, unitsOf, Sound}
@@ -30,7 +30,7 @@ use Rattle.image.proofs.SoundLaws.{passed-tested, tested-passed}
 use Rattle.image.proofs.Wording.{tested-sound, sound-tested, sound-shape, sound-first, sound-second}
 use Rattle.image.proofs.Refusing.{row-refused}
 use Rattle.image.proofs.Chunks.{is-mapped, units-are-units}
-use Rattle.image.proofs.Room.{freeUnit-past, freeUnit-below, freeUnit-unheld, freeUnit-intro, freeMap-below, freeMap-unnamed, freeMap-intro}
+use Rattle.image.proofs.Room.{freeUnit-unreserved, freeUnit-below, freeUnit-unheld, freeUnit-intro, freeMap-below, freeMap-unnamed, freeMap-intro}
 use Rattle.convert.specs.declared.Converted.{Converted}
 use Rattle.convert.specs.declared.Converted.the-variants.{Bytes as BytesLeft, Refused}
 use Rattle.convert.specs.Convert.{secondOf, newBytes, converted, ifExact, convertAnswer, convertOut}
@@ -211,9 +211,9 @@ all-units s t z h = ⊎-elim (λ q. eqb-true (shapeOf s .r) 0 q) (λ q. absurd (
         let c : shapeOf t .c ≡ shapeOf s .c = ap (λ (k : Shape). k .c) shape-now in
         let unit = between-unit (shapeOf t) 0 (omega arith) (omega (arith, fitting-limits s (z .fitting) .r-high)) in
         let unheld : (i : ℕ) → member 0 (unitsOf s i) ≡ false = λ i.
-        is-false (member 0 (unitsOf s i)) (λ m. let past = unit-past (shapeOf s) 0 (units-are-units s 0 i m) in omega arith) in
+        is-false (member 0 (unitsOf s i)) (λ m. let past = unit-unreserved (shapeOf s) 0 (units-are-units s 0 i m) in omega arith) in
         let new = freeUnit-intro t 0 unit (λ i b. ap (member 0) (h .units i (omega arith)) ∙ unheld i) in
-        let was = freeUnit-past s 0 (ap (λ (f : ℕ → Bool). f 0) (sym (h .free-units)) ∙ new) in
+        let was = freeUnit-unreserved s 0 (ap (λ (f : ℕ → Bool). f 0) (sym (h .free-units)) ∙ new) in
         omega arith
 
 -- The sentences settle every byte: they are said of the converted image alone.

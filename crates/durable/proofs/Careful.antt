@@ -14,7 +14,7 @@ use Rattle.search.proofs.Mapping.{map-ext}
 use Rattle.layout.specs.Shaped.{On}
 use Rattle.layout.proofs.Place.{place-past, place-map}
 use Rattle.image.proofs.Fate.{Same, same-units}
-use Rattle.image.proofs.Room.{freeUnit-past, freeUnit-unheld, freeMap-unnamed}
+use Rattle.image.proofs.Room.{freeUnit-unreserved, freeUnit-unheld, freeMap-unnamed}
 use Rattle.steps.specs.declared.Step.{Step}
 use Rattle.steps.specs.declared.Step.the-variants.{Data, Map, Link, Fence}
 use Rattle.rules.specs.Rules.{planMap, units}
@@ -65,7 +65,7 @@ careful-write s c size xs r h = record {
   range = r;
   maps = λ i j b m p. each-two (off i j b p) xs r (h .on-map);
   units = λ i u b m. each-spares u xs (λ q. contradict m (freeUnit-unheld s u (h .units-free u q) i b));
-  reserved = λ u b. each-spares u xs (λ q. let past = freeUnit-past s u (h .units-free u q) in omega arith);
+  reserved = λ u b. each-spares u xs (λ q. let past = freeUnit-unreserved s u (h .units-free u q) in omega arith);
 }
   where
     off : (i j : ℕ) → i < shapeOf s .c → j < mapWords (shapeOf s) → (x : Step) → InRange (shapeOf s) x → OnMap (planMap xs) x

@@ -18,7 +18,7 @@ use Rattle.search.proofs.Mapping.{getD-map-from}
 use Rattle.layout.specs.declared.Shape.{Shape}
 use Rattle.layout.specs.Layout.{X, unitsFor, isUnit, head, unitWords, shapeOf, fitting, linkOf, wordsOf, mapWords, wordAt, mapWordPlace}
 use Rattle.layout.specs.Shaped.{Shaped, mapOf, unitWordsOf}
-use Rattle.layout.proofs.Limits.{fitting-limits, units-high, unit-below, unit-past, map-words}
+use Rattle.layout.proofs.Limits.{fitting-limits, units-high, unit-below, unit-unreserved, map-words}
 use Rattle.image.specs.Soundness.{mapped, namedWords, unitsOf, leading, Named, MapForm}
 use Rattle.image.specs.Verdicts.{wellFormed, sizeFits, goodForm, goodLink, goodMap, clash}
 use Rattle.image.specs.Claims.{Tested, heldIn}
@@ -227,7 +227,7 @@ reserved-bad s i a f n l low =
     let word = getD (namedWords g s i) a 0 in
     let k = length (leading (isUnit g) (namedWords g s i)) in
     let form = map-form g (mapOf s (linkOf s i)) (sym (named-map s i n) ∙ e) .units in
-    ⊎-elim (λ q. let h = unit-past g word (form .units a (ltb-true a k q)) in omega arith)
+    ⊎-elim (λ q. let h = unit-unreserved g word (form .units a (ltb-true a k q)) in omega arith)
     (λ q. let x = form .rest a (ltb-false a k q) (let w = length-unitWords g s (linkOf s i) in omega arith) in
     omega (arith, lim .r-high, units-high g lim))
     (either (ltb a k)))

@@ -26,7 +26,7 @@ use Rattle.search.proofs.Distinct.{distinct-from, distinct-keep}
 use Rattle.search.proofs.Counting.{left-at-least, left-exactly, unlisted}
 use Rattle.search.proofs.Joined.{distinct-joined, member-joined, length-joined}
 use Rattle.search.specs.Sets.{without}
-use Rattle.layout.proofs.Limits.{fitting-limits, unit-below, unit-past, between-unit, reserved-no-unit}
+use Rattle.layout.proofs.Limits.{fitting-limits, unit-below, unit-unreserved, between-unit, reserved-no-unit}
 use Rattle.image.proofs.Chunks.{length-units, units-are-units, clash-units}
 
 -- ---- the tests
@@ -39,8 +39,8 @@ pub freeUnit-below : (s : List ℕ) (u : ℕ) → freeUnit s u ≡ true → u < 
 freeUnit-below s u e = unit-below (shapeOf s) u (freeUnit-unit s u e)
 
 -- no reserved unit is free
-pub freeUnit-past : (s : List ℕ) (u : ℕ) → freeUnit s u ≡ true → shapeOf s .r ≤ u
-freeUnit-past s u e = unit-past (shapeOf s) u (freeUnit-unit s u e)
+pub freeUnit-unreserved : (s : List ℕ) (u : ℕ) → freeUnit s u ≡ true → shapeOf s .r ≤ u
+freeUnit-unreserved s u e = unit-unreserved (shapeOf s) u (freeUnit-unit s u e)
 
 pub freeUnit-unheld : (s : List ℕ) (u : ℕ) → freeUnit s u ≡ true → (i : ℕ) → i < shapeOf s .c → member u (unitsOf s i) ≡ false
 unfolding freeUnit

@@ -20,7 +20,7 @@ use Rattle.layout.specs.declared.Formatted.the-variants.{Done}
 use Rattle.layout.specs.Layout.{X, firstEdition, lastEdition, unitsFor, isUnit, wordAt, trailerBytes, knownAs, shapeOf, fresh}
 use Rattle.layout.specs.Shaped.{wordCount}
 use Rattle.layout.specs.Format.{formatAnswer, formatImage}
-use Rattle.layout.proofs.Limits.{limits, unit-past}
+use Rattle.layout.proofs.Limits.{limits, unit-unreserved}
 use Rattle.layout.proofs.Formatting.{formatted}
 use Rattle.image.specs.declared.Verdict.{Verdict}
 use Rattle.image.specs.declared.Verdict.the-variants.{Refused, Passed}
@@ -35,7 +35,7 @@ use Rattle.image.proofs.Chunks.{reserved-bad}
 use Rattle.image.proofs.SoundLaws.{passed-tested, tested-passed}
 use Rattle.image.proofs.Wording.{tested-sound, sound-tested, sound-shape, sound-first, sound-second, held-named, named-held}
 use Rattle.image.proofs.Refusing.{refused-row, row-refused}
-use Rattle.image.proofs.Room.{freeUnit-past, free-or-held, held-unit, distinct-held, free-and-held, some-map-free, units-free}
+use Rattle.image.proofs.Room.{freeUnit-unreserved, free-or-held, held-unit, distinct-held, free-and-held, some-map-free, units-free}
 use Rattle.image.proofs.Storing.{size-of-units}
 use Rattle.image.proofs.Fresh.{word-fresh, sound-fresh, freeUnit-fresh, freeMap-fresh}
 
@@ -98,10 +98,10 @@ held-are-units = held-unit
 
 -- "Units below R are never free and never held"
 pub reserved-never-free : (s : List ℕ) (u : ℕ) → u < shapeOf s .r → freeUnit s u ≡ false
-reserved-never-free s u h = is-false (freeUnit s u) (λ e. let k = freeUnit-past s u e in omega arith)
+reserved-never-free s u h = is-false (freeUnit s u) (λ e. let k = freeUnit-unreserved s u e in omega arith)
 
 pub reserved-never-held : (s : List ℕ) (u : ℕ) → u < shapeOf s .r → member u (heldUnits s) ≡ false
-reserved-never-held s u h = is-false (member u (heldUnits s)) (λ e. let k = unit-past (shapeOf s) u (held-unit s u e) in omega arith)
+reserved-never-held s u h = is-false (member u (heldUnits s)) (λ e. let k = unit-unreserved (shapeOf s) u (held-unit s u e) in omega arith)
 
 -- "a named map with one gives 5": in any of the words that may name units, at the lowest chunk with a bad map
 pub reserved-is-refused : (s : List ℕ) (i a : ℕ) → PastRow4 s → i < shapeOf s .c → ((j : ℕ) → j < i → goodMap s j ≡ true) → Named s i → a < shapeOf s .p

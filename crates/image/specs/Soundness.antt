@@ -65,7 +65,7 @@ pub record Sound (g : Shape) (s : List ℕ) : Type 0 where
   -- "each logical entry is X or below M, and no two chunks name the same map"
   pub entries : (i : ℕ) → i < g .c → Named s i → linkOf s i < g .m
   pub maps : (i j : ℕ) → i < g .c → j < g .c → Named s i → linkOf s i ≡ linkOf s j → i ≡ j
-  -- "each named map holds 1 to P units below N, then only X"; in edition 2 "k equal to the size rounded up in units", and "Units below R are [..] never held"
+  -- "each named map holds 1 to P units below N, then only X"; in edition 2 "k equal to the size rounded up in units", and "Units below R are .. never held"
   pub forms : (i : ℕ) → i < g .c → Named s i → (k : ℕ) × MapForm g k (wordsOf g s (linkOf s i))
   -- "no unit is named twice in named maps"
   pub units : (u i j a b : ℕ) → NamesUnit g s i a u → NamesUnit g s j b u → (i ≡ j) × (a ≡ b)

@@ -61,8 +61,8 @@ fresh-run s g lim e =
     let b : List ℕ = drop t s in
     let front : List ℕ = shapeBytes g ++ sizeBytes g in
     let early : length front ≡ 32 = simp (length-append, length-shapeBytes, length-sizeBytes) in
-    let spare = length-added g lim in
-    let size : length (front ++ addedBytes g) ≡ length b = simp (length-append, length-shapeBytes, length-sizeBytes, spare, length-drop) (omega arith) in
+    let added = length-added g lim in
+    let size : length (front ++ addedBytes g) ≡ length b = simp (length-append, length-shapeBytes, length-sizeBytes, added, length-drop) (omega arith) in
     ap (λ (l : List ℕ). sets l (t + 32) (addedBytes g))
     (ap (λ (k : ℕ). sets (sets (a ++ b) t (shapeBytes g)) (t + k) (sizeBytes g)) (sym (length-shapeBytes g))
     ∙ sym (sets-append (shapeBytes g) (sizeBytes g) (a ++ b) t))

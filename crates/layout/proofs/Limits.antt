@@ -205,16 +205,16 @@ pub unit-below : (g : Shape) (u : ℕ) → isUnit g u ≡ true → u < g .n
 unfolding isUnit
 unit-below g u e = ltb-true u (g .n) (and-right (leb (g .r) u) (ltb u (g .n)) e)
 
-pub unit-past : (g : Shape) (u : ℕ) → isUnit g u ≡ true → g .r ≤ u
+pub unit-unreserved : (g : Shape) (u : ℕ) → isUnit g u ≡ true → g .r ≤ u
 unfolding isUnit
-unit-past g u e = leb-true (g .r) u (and-left (leb (g .r) u) (ltb u (g .n)) e)
+unit-unreserved g u e = leb-true (g .r) u (and-left (leb (g .r) u) (ltb u (g .n)) e)
 
 pub between-unit : (g : Shape) (u : ℕ) → g .r ≤ u → u < g .n → isUnit g u ≡ true
 unfolding isUnit
 between-unit g u a b = and-intro (leb (g .r) u) (ltb u (g .n)) (le-leb (g .r) u a) (lt-ltb u (g .n) b)
 
 pub reserved-no-unit : (g : Shape) (u : ℕ) → u < g .r → isUnit g u ≡ false
-reserved-no-unit g u h = is-false (isUnit g u) (λ e. let l = unit-past g u e in omega arith)
+reserved-no-unit g u h = is-false (isUnit g u) (λ e. let l = unit-unreserved g u e in omega arith)
 
 pub past-units : (g : Shape) (u : ℕ) → g .n ≤ u → isUnit g u ≡ false
 past-units g u h = is-false (isUnit g u) (λ e. let l = unit-below g u e in omega arith)

@@ -1,8 +1,8 @@
--- Document 01's worked numbers, against the definitions.
+-- The worked numbers of documents 01 and 02, against the definitions.
 use Prim.Native.Nat.{ℕ}
 use mathlib.Core.Path.{_≡_, refl}
 use mathlib.Core.Bool.{true, false}
-use mathlib.Core.List.{[], _∷_}
+use mathlib.Core.List.{List, [], _∷_, _++_}
 use Rattle.words.specs.Words.{digits}
 use Rattle.layout.specs.declared.Shape.{Shape}
 use Rattle.layout.specs.Layout.{edition1, edition2, maxReserved, mapWords, imageBytes, withinLimits, shapeBytes, sizeBytes, addedBytes, trailerOf}
@@ -41,15 +41,23 @@ bad-257 = refl
 abbrev pub volume2 : ℕ → Shape
 volume2 r = edition2 4 4 5 20 r
 
-pub size2 : imageBytes (volume2 3) ≡ 272
+pub size2 : (r : ℕ) → imageBytes (volume2 r) ≡ 272
 unfolding mapWords
-size2 = refl
+size2 r = refl
 
-pub trailer2 : trailerOf (volume2 3)
-    ≡ 0x52 ∷ 0x4D ∷ 0x41 ∷ 0x50 ∷ 0x02 ∷ 0x00 ∷ 0x04 ∷ 0x00 ∷ 0x04 ∷ 0x00 ∷ 0x00 ∷ 0x00 ∷ 0x05 ∷ 0x00 ∷ 0x00 ∷ 0x00 ∷ 0x14 ∷ 0x00 ∷ 0x00 ∷ 0x00
-    ∷ 0xE8 ∷ 0x00 ∷ 0x00 ∷ 0x00 ∷ 0xC8 ∷ 0x00 ∷ 0x00 ∷ 0x00 ∷ 0x10 ∷ 0x01 ∷ 0x00 ∷ 0x00 ∷ 0x03 ∷ 0x00 ∷ 0x00 ∷ 0x00 ∷ 0x00 ∷ 0x00 ∷ 0x00 ∷ 0x00 ∷ []
+-- edition 1's fields, and then R and 0
+abbrev pub fields2 : List ℕ
+fields2 =
+    0x52 ∷ 0x4D ∷ 0x41 ∷ 0x50 ∷ 0x02 ∷ 0x00 ∷ 0x04 ∷ 0x00 ∷ 0x04 ∷ 0x00 ∷ 0x00 ∷ 0x00 ∷ 0x05 ∷ 0x00 ∷ 0x00 ∷ 0x00 ∷ 0x14 ∷ 0x00 ∷ 0x00 ∷ 0x00
+    ∷ 0xE8 ∷ 0x00 ∷ 0x00 ∷ 0x00 ∷ 0xC8 ∷ 0x00 ∷ 0x00 ∷ 0x00 ∷ 0x10 ∷ 0x01 ∷ 0x00 ∷ 0x00 ∷ []
+
+pub trailer2 : trailerOf (volume2 0) ≡ fields2 ++ 0x00 ∷ 0x00 ∷ 0x00 ∷ 0x00 ∷ 0x00 ∷ 0x00 ∷ 0x00 ∷ 0x00 ∷ []
 unfolding trailerOf shapeBytes sizeBytes addedBytes mapWords digits
 trailer2 = refl
+
+pub trailer2-reserved : trailerOf (volume2 3) ≡ fields2 ++ 0x03 ∷ 0x00 ∷ 0x00 ∷ 0x00 ∷ 0x00 ∷ 0x00 ∷ 0x00 ∷ 0x00 ∷ []
+unfolding trailerOf shapeBytes sizeBytes addedBytes mapWords digits
+trailer2-reserved = refl
 
 -- the largest image of any edition
 pub largest : imageBytes (edition2 16 256 288 4608 0) ≡ 41256

@@ -184,7 +184,7 @@ shapeBytes g = tag ++ digits 2 (g .edition) ++ digits 2 (g .p) ++ digits 4 (g .c
 unfoldable pub sizeBytes : Shape → List ℕ
 sizeBytes g = digits 4 (trailerStart g) ++ digits 4 (mapBytes g) ++ digits 4 (imageBytes g)
 
--- the rest: none in edition 1; in edition 2 two u32, of which "The first [..] becomes R" and the second "must be 0"
+-- the rest: none in edition 1; in edition 2 two u32, of which "The first .. becomes R" and the second "must be 0"
 unfoldable pub addedBytes : Shape → List ℕ
 addedBytes g = cond (eqb (g .edition) firstEdition) [] (digits 4 (g .r) ++ digits 4 0)
 

@@ -211,7 +211,7 @@ fn agrees(s: &[u8], g: Shape) -> bool
     s.len() == total
 }
 
-// Whether what follows the reserved units is 0.
+// Whether the number after R, edition 2's last, is 0.
 fn spare_is_zero(s: &[u8], g: Shape) -> bool
     requires { ⌜ (trailerBytes (g .edition) ≤ length (now s)) × (withinLimits g ≡ true) ⌝ }
     ensures { λ r. ⌜ r ≡ spareZero (now (s .entry)) g ⌝ }
