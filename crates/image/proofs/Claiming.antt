@@ -6,7 +6,7 @@ use mathlib.Core.List.{List}
 use native.Mathlib.Omega.{arith}
 use lib.ListN.{length, getD, take}
 use lib.Seq.{take-all}
-use lib.Dec.{eqb, ltb, leb}
+use lib.Dec.{eqb, ltb}
 use mathlib.Core.Logic.{by-cases}
 use native.Mathlib.Decide.{ℕ-discrete}
 use borrow.Author.Tests.{eq-eqb, ne-eqb, lt-ltb}
@@ -178,9 +178,9 @@ module _ (s : List ℕ) (j k : ℕ) (l : k ≡ linkOf s j) (x : k ≡ X → ⊥)
 -- ---- before the first chunk, and after the last
 
 module _ (s : List ℕ) (g : Shape) (e : g ≡ shapeOf s) where
-  pub unheld-start : (u : ℕ) → (leb (g .r) u && ltb u (g .n)) ≡ unheld s 0 u
-  unfolding unheld any from isUnit
-  unheld-start u = ap (λ (h : Shape). leb (h .r) u && ltb u (h .n)) e ∙ sym (and-true (leb (shapeOf s .r) u && ltb u (shapeOf s .n)))
+  pub unheld-start : (u : ℕ) → isUnit g u ≡ unheld s 0 u
+  unfolding unheld any from
+  unheld-start u = ap (λ (h : Shape). isUnit h u) e ∙ sym (and-true (isUnit (shapeOf s) u))
 
   pub unnamed-start : (k : ℕ) → ltb k (g .m) ≡ unnamed s 0 k
   unfolding unnamed any from

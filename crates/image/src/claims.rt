@@ -14,7 +14,8 @@ ghost use Prim.Native.Nat.{ℕ, _<_};
 ghost use lib.ListN.{length};
 ghost use Rattle.image.specs.Verdicts.{goodLink};
 ghost use Rattle.bitset.specs.Bits.{bitSet};
-ghost use Rattle.layout.specs.Shaped.{Shaped};
+ghost use Rattle.layout.specs.Layout.{isUnit};
+ghost use Rattle.layout.specs.Shaped.{Limits, Shaped};
 ghost use Rattle.image.specs.Loading.{unitSetWords, mapSetWords};
 ghost use Rattle.image.specs.Claims.{heldIn, unheld, unnamed, TakenOut, Claimed, Scanned};
 
@@ -58,8 +59,18 @@ fn claim(image: &[u8], g: Shape, j: usize, units: &mut [u64], maps: &mut [u64]) 
     false
 }
 
-// Takes the maps and units of the chunks out of the sets of all maps and of all units but the reserved ones, chunk after chunk: the lowest chunk that claims
-// what a lower one has claimed, or one unit twice; or C, and then the sets hold what is free.
+// Makes a set that of the units that a chunk may hold.
+fn fill_units(units: &mut [u64], g: Shape)
+    requires { ⌜ Limits g ⌝ }
+    ensures { λ _. ⌜ now (units .exit) ≡ bitSet (isUnit g) (length (now (units .entry))) ⌝ }
+{
+    let low = g.r as usize;
+    let high = g.n as usize;
+    fill_between(units, low, high);
+}
+
+// Takes the maps and units of the chunks out of the full sets, chunk after chunk: the lowest chunk that claims what a lower one has claimed, or one unit
+// twice; or C, and then the sets hold what is free.
 pub(crate) fn first_double_claim(
     image: &[u8],
     g: Shape,
@@ -72,10 +83,8 @@ pub(crate) fn first_double_claim(
     ensures { λ r. ⌜ Scanned (now (image .entry)) r (now (units .exit)) (now (maps .exit)) ⌝ }
 {
     let c = g.c as usize;
-    let n = g.n as usize;
     let m = g.m as usize;
-    let r = g.r as usize;
-    fill_between(units, r, n);
+    fill_units(units, g);
     fill(maps, m);
     let mut j: usize = 0;
     while j < c {

@@ -19,27 +19,21 @@ use Rattle.image.proofs.claims.first_double_claim.Statement.{statement}
 use Rattle.image.proofs.claims.first_double_claim.Tie as tie
 
 abbrev Inv-loop : tie.InvT-loop
-Inv-loop image g units₀ maps₀ c n m r j₀ units maps j =
+Inv-loop image g units₀ maps₀ c m j₀ units maps j =
     (j ≤ c) × (units ≡ bitSet (unheld image j) unitSetWords) × (maps ≡ bitSet (unnamed image j) mapSetWords)
     × (doubleClaim image ≡ lowestFrom (contested image) j (c - j))
 
 abbrev μ-loop : tie.MeasureT-loop
-μ-loop image g units₀ maps₀ c n m r j₀ units maps j = c - j
+μ-loop image g units₀ maps₀ c m j₀ units maps j = c - j
 
 cast-c : tie.Need-cast-c Inv-loop μ-loop
 cast-c c = search needs
 
-cast-n : tie.Need-cast-n Inv-loop μ-loop
-cast-n c = search needs
-
 cast-m : tie.Need-cast-m Inv-loop μ-loop
 cast-m c = search needs
 
-cast-r : tie.Need-cast-r Inv-loop μ-loop
-cast-r c = search needs
-
-fill-between-requires : tie.Need-fill-between-requires Inv-loop μ-loop
-fill-between-requires c κs = omega (arith, c .before .before .before .before .before .before .before .before .pre .0 .limits .r-high)
+fill-units-requires : tie.Need-fill-units-requires Inv-loop μ-loop
+fill-units-requires c κs = c .before .before .before .before .before .before .pre .0 .limits
 
 fill-requires : tie.Need-fill-requires Inv-loop μ-loop
 fill-requires c κs = search needs
@@ -48,11 +42,11 @@ loop-holds : tie.Need-loop-holds Inv-loop μ-loop
 unfolding doubleClaim
 loop-holds c =
     let filled = c .before .before .before .before .before .before in
-    let a = filled .before .before .before .before .before .before .before .before .before in
+    let a = filled .before .before .before .before .before .before .before in
     let s = a .args .image .now in
     let same = a .pre .0 .same in (
       search needs,
-      filled .fill-between .ensures ∙ rw (a .pre .1 .1 .0) (bitSet-ext _ _ unitSetWords (λ y h. unheld-start s (a .args .g) same y)),
+      filled .fill-units .ensures ∙ rw (a .pre .1 .1 .0) (bitSet-ext _ _ unitSetWords (λ y h. unheld-start s (a .args .g) same y)),
       c .before .before .fill .ensures ∙ rw (a .pre .1 .1 .1) (bitSet-ext _ _ mapSetWords (λ y h. unnamed-start s (a .args .g) same y)),
       lowest-start _ _ _ (ap (λ (g : Shape). g .c) same),
     )
@@ -61,7 +55,7 @@ claim-requires : tie.Need-claim-requires Inv-loop μ-loop
 claim-requires c κs =
     let turn = c .before .before .before in
     let l = turn .loop in
-    let a = turn .before .before .before .before .before .before .before .before .before .before .before .before .before .before .before .before in
+    let a = turn .before .before .before .before .before .before .before .before .before .before .before .before .before .before in
     (a .pre .0, ((omega arith, a .pre .1 .0 (l .j) (omega arith)), (l .inv .1, l .inv .2)))
 
 add-j : tie.Need-add-j Inv-loop μ-loop
@@ -74,7 +68,7 @@ loop-again : tie.Need-loop-again Inv-loop μ-loop
 loop-again c =
     let turn = c .before .before .before .before .before .before .before .before .before in
     let l = turn .loop in
-    let a = turn .before .before .before .before .before .before .before .before .before .before .before .before .before .before .before .before in
+    let a = turn .before .before .before .before .before .before .before .before .before .before .before .before .before .before in
     let h = c .before .before .before .before .before .claim .ensures in
     let apart : contested (a .args .image .now) (l .j) ≡ false = not-true _ (sym (h .right) ∙ c .if1 .taken) in (
       omega arith,
@@ -86,18 +80,20 @@ loop-again c =
 same-length : tie.Need-same-length Inv-loop μ-loop
 same-length c =
     let turn = c .before .before .before .before .before .before .before .before .before in
-    omega (arith, turn .before .before .before .before .before .before .before .before .before .before .before .before .before .before .before .before .pre .1 .1 .0, ap length (turn .loop .inv .1) ∙ length-bitSet _ unitSetWords)
+    let a = turn .before .before .before .before .before .before .before .before .before .before .before .before .before .before in
+    omega (arith, a .pre .1 .1 .0, ap length (turn .loop .inv .1) ∙ length-bitSet _ unitSetWords)
 
 same-length-2 : tie.Need-same-length-2 Inv-loop μ-loop
 same-length-2 c =
     let turn = c .before .before .before .before .before .before .before .before .before in
-    omega (arith, turn .before .before .before .before .before .before .before .before .before .before .before .before .before .before .before .before .pre .1 .1 .1, ap length (turn .loop .inv .2) ∙ length-bitSet _ mapSetWords)
+    let a = turn .before .before .before .before .before .before .before .before .before .before .before .before .before .before in
+    omega (arith, a .pre .1 .1 .1, ap length (turn .loop .inv .2) ∙ length-bitSet _ mapSetWords)
 
 returns : tie.Need-returns Inv-loop μ-loop
 returns c =
     let turn = c .before .before .before .before .before .before .before .before .before in
     let l = turn .loop in
-    let a = turn .before .before .before .before .before .before .before .before .before .before .before .before .before .before .before .before in
+    let a = turn .before .before .before .before .before .before .before .before .before .before .before .before .before .before in
     let h = c .before .before .before .before .before .claim .ensures in
     let twice : contested (a .args .image .now) (l .j) ≡ true = not-false _ (sym (h .right) ∙ c .if1 .left) in
     scanned-part (a .args .image .now) (a .args .g) (a .pre .0 .same) (l .j) _ _ (omega arith)
@@ -113,7 +109,7 @@ returns-2 : tie.Need-returns-2 Inv-loop μ-loop
 returns-2 c =
     let turn = c .before in
     let l = turn .loop in
-    let a = turn .before .before .before .before .before .before .before .before .before .before .before .before .before .before .before .before in
+    let a = turn .before .before .before .before .before .before .before .before .before .before .before .before .before .before in
     scanned-all (a .args .image .now) (a .args .g) (a .pre .0 .same) (l .j) _ _ (omega arith)
     (sym (l .inv .3 ∙ lowest-end _ (a .args .g .c) (l .j) (omega arith))) (l .inv .1) (l .inv .2)
 
@@ -124,10 +120,8 @@ first-double-claim-spec =
     Inv-loop
     μ-loop
     cast-c
-    cast-n
     cast-m
-    cast-r
-    fill-between-requires
+    fill-units-requires
     fill-requires
     loop-holds
     claim-requires
