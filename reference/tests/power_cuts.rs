@@ -233,8 +233,10 @@ fn random_event_lists() {
     assert_eq!(all.hands[Hand::Damaged(0).index()][0], 0, "damaged plans");
     let mutated = all.hands[Hand::Mutated.index()];
     assert!(mutated.iter().all(|&count| count > 0), "mutated plans");
-    let [accepted, refused, _] = all.hands[Hand::Reserved.index()];
-    assert!(accepted == 0 && refused > 100, "plans on reserved units");
+    for room in [true, false] {
+        let [accepted, refused, _] = all.hands[Hand::Reserved { room }.index()];
+        assert!(accepted == 0 && refused > 100, "reserved units, {room}");
+    }
     assert!(all.cut_linked > 100 && all.cut_partial > 100);
 }
 
@@ -336,6 +338,8 @@ fn small_volumes_exhaustively() {
             "deepest",
             "plans accepted",
             "plans refused",
+            "on reserved units",
+            "no room, on reserved units",
             "cut points",
             "subsets",
             "events",
@@ -345,6 +349,7 @@ fn small_volumes_exhaustively() {
     )];
     let mut all = Tally::default();
     let mut failed = None;
+    let mut tried = true;
     for scope in &SCOPES {
         if cfg!(debug_assertions) && all.events > LARGE {
             break;
@@ -363,6 +368,7 @@ fn small_volumes_exhaustively() {
             ", worked through"
         };
         rows.push(row(&(name(&scope.shape) + started), &cells));
+        tried &= scope.tries_reserved(&tally);
         all += &tally;
     }
     let mut cells = vec![String::new(), String::new()];
@@ -373,6 +379,7 @@ fn small_volumes_exhaustively() {
     if let Some(case) = failed {
         panic!("{case}");
     }
+    assert!(tried, "plans on reserved units");
 }
 
 /// Every order of the steps.
@@ -607,6 +614,7 @@ const TRAILER: &str = "trailer changed";
 const OVERWRITTEN: &str = "reserved unit overwritten";
 const ON_RESERVED: &str = "a chunk on a reserved unit";
 const RESERVED_DATA: &str = "reserved unit planned";
+const VERDICT: &str = "verdict";
 
 /// "LINK before the fence: a cut shows a map that isn't there." (01)
 #[test]
@@ -654,8 +662,19 @@ fn word_0_taken_for_a_unit_is_caught() {
     }
 }
 
-/// Two volumes of edition 2 with reserved units.
+/// Two volumes of edition 2 with reserved units, on which 9 can occur.
 const WITH_RESERVED: [Shape; 2] = [VOLUME_64K.reserving(3), two(2, 2, 3, 4).reserving(2)];
+
+/// Explores a scope with reserved units under a wrong rule, until each of these
+/// violations is seen.
+fn notice_in_scope<R: Rules>(rule: &str, rules: &R, scope: &Scope, violations: &[&str]) {
+    for &violation in violations {
+        let tells = |seen: &Violation| seen.name() == violation;
+        let (_, found) = explore(rules, scope, &tells);
+        let scope = (name(&scope.shape), scope.plans);
+        assert!(found.is_some(), "{rule}, {violation}: not in {scope:?}");
+    }
+}
 
 /// "Units below R are never free and never held" (02, request 5): a checker that
 /// takes them for free lets the boot loader be written over, and what loads no
@@ -663,9 +682,19 @@ const WITH_RESERVED: [Shape; 2] = [VOLUME_64K.reserving(3), two(2, 2, 3, 4).rese
 #[test]
 fn a_checker_that_takes_reserved_units_for_free_is_caught() {
     let rules = wrong::Checker(wrong::with_reserved_units_free);
-    let kinds = [RESERVED_DATA, OVERWRITTEN, ON_RESERVED, LOAD];
+    let kinds = [VERDICT, RESERVED_DATA, OVERWRITTEN, ON_RESERVED, LOAD];
     let rule = "reserved units free to the checker";
     notice_on(WITH_RESERVED, rule, &rules, &kinds);
+    // In each scope that has some, whichever plans are tried there.
+    let scopes = || SCOPES.iter().filter(|scope| scope.shape.r > 0);
+    scopes().for_each(|scope| notice_in_scope(rule, &rules, scope, &kinds));
+
+    // A checker that takes them only for want of others.
+    let rules = wrong::Checker(wrong::with_reserved_units_at_need);
+    let rule = "reserved units free where others are too few";
+    notice_on(WITH_RESERVED, rule, &rules, &kinds);
+    let needy = scopes().filter(|scope| scope.depth.is_none());
+    needy.for_each(|scope| notice_in_scope(rule, &rules, scope, &kinds));
 }
 
 /// The same of a loader and a planner; then the library's checker lets no such
@@ -677,6 +706,7 @@ fn a_planner_that_takes_reserved_units_for_free_is_caught() {
     };
     let kinds = [
         "free set",
+        "load's value",
         "planner",
         RESERVED_DATA,
         OVERWRITTEN,

@@ -21,7 +21,8 @@ use crate::{any, name, seed, times, CHANCES};
 pub trait Beginning: Default + for<'a> AddAssign<&'a Self> {
     /// As in 'after a repair'.
     const NAME: &'static str;
-    /// The last word of 'every image of small volumes, repaired'.
+    /// As in 'every image of small volumes, repaired', with the last word.
+    const IMAGE: &'static str;
     const DONE: &'static str;
 
     fn titles() -> Vec<&'static str>;
@@ -117,20 +118,25 @@ pub fn random_lists<B: Beginning>(
     all
 }
 
-/// Every image of these scopes, and a table of what comes of it. Fails on a
-/// violation.
+/// Every image of these scopes that can be begun with, and a table of what comes
+/// of it. Fails on a violation.
 pub fn every_image_of<B: Beginning>(scopes: &[Scope]) {
     let begun = Instant::now();
     let mut titles = B::titles();
-    titles.extend(["states", "deepest", "subsets", "events", "violations"]);
+    titles.extend(["states", "deepest", "plans refused", "on reserved units"]);
+    titles.extend(["no room, on such", "subsets", "events", "violations"]);
     let mut rows = vec![row("volume", &titles)];
     let mut all = Tally::default();
     let mut failed = None;
+    let mut tried = true;
     let mut tell = |name: &str, tally: &Tally| {
         let mut cells = B::of(tally).cells();
         cells.extend([
             tally.states,
             tally.deepest as u64,
+            tally.refused,
+            tally.on_reserved,
+            tally.out_of_reserved,
             tally.subsets,
             tally.events,
             tally.violations,
@@ -144,11 +150,13 @@ pub fn every_image_of<B: Beginning>(scopes: &[Scope]) {
         let (tally, case) = explore(&Library, scope, &any);
         failed = failed.or(case);
         tell(&name(&scope.shape), &tally);
+        tried &= scope.tries_reserved(&tally);
         all += &tally;
     }
     tell("all", &all);
     let title = format!(
-        "Every image of small volumes, {}, {:.1?}",
+        "Every {} of small volumes, {}, {:.1?}",
+        B::IMAGE,
         B::DONE,
         begun.elapsed()
     );
@@ -156,6 +164,7 @@ pub fn every_image_of<B: Beginning>(scopes: &[Scope]) {
     if let Some(case) = failed {
         panic!("{case}");
     }
+    assert!(tried, "plans on reserved units");
 }
 
 /// Runs a wrong rule until each of these violations is seen, by random lists on

@@ -62,12 +62,12 @@ pub fn converted<R: Rules>(
     simulator.verify(&volume.image, violations);
     simulator.verify_pieces(&volume, violations);
     simulator.verify_sizes(&volume, 0, violations);
-    simulator.verify_reserved(&volume, violations);
     volume
 }
 
 impl Beginning for Conversions {
     const NAME: &'static str = "conversion";
+    const IMAGE: &'static str = "sound image";
     const DONE: &'static str = "converted";
 
     fn titles() -> Vec<&'static str> {

@@ -91,8 +91,9 @@ pub enum Hand {
     Other,
     /// A legal plan with one defect that breaks this rule first.
     Damaged(u64),
-    /// A plan that is legal but for reserved units that it writes on.
-    Reserved,
+    /// A plan that is legal but for reserved units that it writes on: where
+    /// there is room, in the place of free ones, else for want of them.
+    Reserved { room: bool },
     /// Changed at random: the checker's verdict is followed.
     Mutated,
     /// A plan of an earlier event once more.
@@ -102,7 +103,7 @@ pub enum Hand {
 }
 
 impl Hand {
-    pub const NAMES: [&'static str; 7] = [
+    pub const NAMES: [&'static str; 8] = [
         "the planner's own",
         "legal, another hand",
         "damaged",
@@ -110,6 +111,7 @@ impl Hand {
         "replayed",
         "no room, bad request",
         "on reserved units",
+        "no room, on reserved units",
     ];
 
     pub fn index(self) -> usize {
@@ -120,7 +122,8 @@ impl Hand {
             Hand::Mutated => 3,
             Hand::Replayed => 4,
             Hand::Stray => 5,
-            Hand::Reserved => 6,
+            Hand::Reserved { room: true } => 6,
+            Hand::Reserved { room: false } => 7,
         }
     }
 }

@@ -15,10 +15,11 @@ use crate::lists::Case;
 use crate::plans::{of_the_other_edition, replace_map, replace_unit, Ground};
 use crate::repaired::{every_image, repaired, Repairs};
 use crate::rules::{carry_step, first, land, landed, Rules};
-use crate::simulate::{Due, Simulator, Violation};
+use crate::simulate::{Simulator, Violation};
 use crate::volume::{contents, Held, Reading, Volume};
 
-/// Which plans are tried for a request.
+/// Which plans are tried for a request, besides those on reserved units; see
+/// [`Explorer::on_reserved`].
 #[derive(Clone, Copy, Debug, PartialEq, Eq)]
 pub enum Plans {
     /// The planner's, and one on the highest free units and map instead of the
@@ -71,6 +72,13 @@ impl Scope {
     fn renames(&self) -> bool {
         self.depth.is_none()
     }
+
+    /// Whether plans on reserved units were tried, if there are such, and where
+    /// lists of any length come to want units, for want of others too.
+    pub fn tries_reserved(&self, tally: &Tally) -> bool {
+        let at_need = self.depth.is_some() || tally.out_of_reserved > 0;
+        self.shape.r == 0 || tally.on_reserved > 0 && at_need
+    }
 }
 
 #[derive(Clone, Debug, Default)]
@@ -82,6 +90,10 @@ pub struct Tally {
     pub deepest: usize,
     pub accepted: u64,
     pub refused: u64,
+    /// Of those refused, plans on reserved units: in the place of free ones, and
+    /// where too few are free.
+    pub on_reserved: u64,
+    pub out_of_reserved: u64,
     pub points: u64,
     pub subsets: u64,
     pub events: u64,
@@ -93,13 +105,15 @@ pub struct Tally {
 
 impl Tally {
     /// The figures as a table shows them.
-    pub fn cells(&self) -> [u64; 10] {
+    pub fn cells(&self) -> [u64; 12] {
         [
             self.states,
             self.expanded,
             self.deepest as u64,
             self.accepted,
             self.refused,
+            self.on_reserved,
+            self.out_of_reserved,
             self.points,
             self.subsets,
             self.events,
@@ -116,6 +130,8 @@ impl AddAssign<&Tally> for Tally {
         self.deepest = self.deepest.max(other.deepest);
         self.accepted += other.accepted;
         self.refused += other.refused;
+        self.on_reserved += other.on_reserved;
+        self.out_of_reserved += other.out_of_reserved;
         self.points += other.points;
         self.subsets += other.subsets;
         self.events += other.events;
@@ -288,17 +304,48 @@ fn edits(shape: &Shape, steps: &[Fields]) -> Vec<Vec<Fields>> {
 }
 
 impl<R: Rules> Explorer<'_, R> {
+    /// Every plan of a write that is the planner's in its order and legal but
+    /// for one reserved unit or more: each arrangement of k units that are free
+    /// or reserved, with one of the latter, on the lowest free map; where every
+    /// choice is tried, on each free map. Rule 2 is broken whatever the map is.
+    fn on_reserved(&self, image: &[u8], request: Request) -> Vec<(Vec<u8>, Hand)> {
+        let shape = &self.simulator.shape;
+        let Some(size) = request.size.filter(|_| shape.r > 0) else {
+            return Vec::new();
+        };
+        let reading = Reading::of(shape, image);
+        let k = request.k() as usize;
+        let room = reading.free_units().count() >= k;
+        let units: Vec<u64> = (0..shape.r).chain(reading.free_units()).collect();
+        let maps = match self.scope.plans {
+            Plans::EveryChoice => shape.m as usize,
+            Plans::Two | Plans::Edits => 1,
+        };
+        let maps: Vec<u64> = reading.free_maps().take(maps).collect();
+        let mut plans = Vec::new();
+        for units in arrangements(&units, k) {
+            if units.iter().any(|&unit| unit < shape.r) {
+                for &map in &maps {
+                    let steps = assemble(shape, request.chunk, size, &units, map);
+                    plans.push((encode(&steps), Hand::Reserved { room }));
+                }
+            }
+        }
+        plans
+    }
+
     /// The plans for a request and who made them. The planner is held to 01 on
     /// the way.
     fn plans(&mut self, volume: &Volume, request: Request) -> Vec<(Vec<u8>, Hand)> {
         let shape = &self.simulator.shape;
         let image = &volume.image;
         let planned = self.simulator.plan(image, request, &mut self.violations);
+        let mut plans = self.on_reserved(image, request);
         let Some(planned) = planned else {
-            return Vec::new();
+            return plans;
         };
         let planned_steps = decode(&planned);
-        let mut plans = vec![(planned, Hand::Planner)];
+        plans.push((planned, Hand::Planner));
         if let Some(size) = request.size {
             let reading = Reading::of(shape, image);
             let units: Vec<u64> = reading.free_units().collect();
@@ -352,11 +399,13 @@ impl<R: Rules> Explorer<'_, R> {
         let Simulator { rules, shape, .. } = simulator;
         let image = &volume.image;
         let answer = simulator.check(image, event.request, &event.plan, &mut self.violations);
+        simulator.expect(event, answer, &mut self.violations);
         if answer.number != 0 {
             self.tally.refused += 1;
-            if event.hand != Hand::Mutated {
-                let due = Due::Pass;
-                self.violations.push(Violation::Verdict { answer, due });
+            match event.hand {
+                Hand::Reserved { room: true } => self.tally.on_reserved += 1,
+                Hand::Reserved { room: false } => self.tally.out_of_reserved += 1,
+                _ => {}
             }
             // "Where checking, or carrying out n steps, is refused, both
             // stay." (01)

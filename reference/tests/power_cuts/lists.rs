@@ -146,7 +146,7 @@ impl<R: Rules> Source<'_, R> {
             if request.is_good(shape) && rng.chance(50) {
                 // No room, unless what is kept for the boot loader were taken.
                 if let Some(steps) = plans::out_of_reserved(rng, &ground, request) {
-                    return (encode(&steps), Hand::Reserved);
+                    return (encode(&steps), Hand::Reserved { room: false });
                 }
             }
             // No room, or a bad request: a plan on any units.
@@ -161,7 +161,7 @@ impl<R: Rules> Source<'_, R> {
         };
         if shape.r > 0 && request.size.is_some() && rng.chance(10) {
             let steps = plans::on_reserved(rng, &ground, &legal);
-            return (encode(&steps), Hand::Reserved);
+            return (encode(&steps), Hand::Reserved { room: true });
         }
         match rng.below(100) {
             0..=29 => (planned, Hand::Planner),

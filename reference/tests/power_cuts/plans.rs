@@ -99,13 +99,14 @@ pub fn on_reserved(rng: &mut Rng, ground: &Ground, steps: &[Fields]) -> Vec<Fiel
 }
 
 /// A write's plan where too few units are free: all of those and reserved ones.
-/// None if these together are too few.
+/// None if enough are free, or if these together are too few.
 pub fn out_of_reserved(rng: &mut Rng, ground: &Ground, request: Request) -> Option<Vec<Fields>> {
     let size = request.size?;
-    let mut units: Vec<u64> = ground.reading.free_units().collect();
-    units.extend(0..ground.shape.r);
     let k = request.k() as usize;
-    if units.len() < k {
+    let mut units: Vec<u64> = ground.reading.free_units().collect();
+    let free = units.len();
+    units.extend(0..ground.shape.r);
+    if free >= k || units.len() < k {
         return None;
     }
     units.truncate(k);

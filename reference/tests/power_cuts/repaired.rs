@@ -12,8 +12,9 @@ use crate::exhaustive::{Plans, Scope, Start, Tally};
 use crate::rules::Rules;
 use crate::simulate::{Simulator, Violation};
 use crate::volume::{faults, Fault, Flaw, Reading, Volume};
+use crate::{notice_in_scope, LEDGER, LOAD, NO_MAP, ON_RESERVED, TWO_OWNERS};
 use crate::{seed, shape, two, volumes, wrong, VOLUME_64K};
-use crate::{LEDGER, LOAD, NO_MAP, ON_RESERVED, TWO_OWNERS};
+use crate::{OVERWRITTEN, RESERVED_DATA, VERDICT};
 
 /// What was repaired.
 #[derive(Clone, Debug, Default)]
@@ -77,12 +78,12 @@ pub fn repaired<R: Rules>(
     simulator.verify(&volume.image, violations);
     simulator.verify_pieces(&volume, violations);
     simulator.verify_sizes(&volume, 0, violations);
-    simulator.verify_reserved(&volume, violations);
     volume
 }
 
 impl Beginning for Repairs {
     const NAME: &'static str = "repair";
+    const IMAGE: &'static str = "image";
     const DONE: &'static str = "repaired";
 
     fn titles() -> Vec<&'static str> {
@@ -133,8 +134,9 @@ impl Beginning for Repairs {
 }
 
 /// Every image of this geometry: each entry a map, X or the least bad link, each
-/// word of every map a unit, X or the least number that is none; a size 0, that
-/// of each number of units which the events have, or X.
+/// word of every map a number up to N, which is the least that is none, reserved
+/// ones among them, or X; a size 0, that of each number of units which the events
+/// have, or X.
 pub fn every_image(shape: &Shape, give: &mut dyn FnMut(&[u8])) {
     let Shape { p, c, m, n, .. } = *shape;
     let mut image = inputs::fresh(shape);
@@ -273,6 +275,16 @@ fn a_repair_that_leaves_a_chunk_on_a_reserved_unit_is_caught() {
         &EVERY_IMAGE[5],
         &[ON_RESERVED, LOAD, REPAIR],
     );
+}
+
+/// Plans on reserved units are tried after a repair as well.
+#[test]
+fn a_checker_wrong_on_reserved_units_is_caught_after_a_repair() {
+    let kinds = [VERDICT, RESERVED_DATA, OVERWRITTEN, ON_RESERVED, LOAD];
+    let rules = wrong::Checker(wrong::with_reserved_units_free);
+    notice_in_scope("reserved units free", &rules, &EVERY_IMAGE[5], &kinds);
+    let rules = wrong::Checker(wrong::with_reserved_units_at_need);
+    notice_in_scope("reserved at need", &rules, &EVERY_IMAGE[5], &kinds);
 }
 
 /// What no event list can give away, because the image is sound: that one side

@@ -33,6 +33,8 @@ pub enum Violation {
     Overwritten { unit: u64, holds: u64 },
     /// A plan that passed, with a DATA step on a reserved unit.
     ReservedData { unit: u64 },
+    /// "Load answers R as its value" (Decision 78), and here it is not.
+    LoadValue { value: u64 },
     /// Load's free sets are not what no named map holds.
     FreeSet { unit: Option<u64>, map: Option<u64> },
     /// A chunk does not hold what the ledger gives it.
@@ -104,6 +106,7 @@ impl Violation {
             Violation::Trailer => "trailer changed",
             Violation::Overwritten { .. } => "reserved unit overwritten",
             Violation::ReservedData { .. } => "reserved unit planned",
+            Violation::LoadValue { .. } => "load's value",
             Violation::FreeSet { .. } => "free set",
             Violation::Ledger { .. } => "not what the ledger gives",
             Violation::StoredSize { .. } => "another stored size",
@@ -128,6 +131,7 @@ impl Violation {
         !matches!(
             self,
             Violation::FreeSet { .. }
+                | Violation::LoadValue { .. }
                 | Violation::Carry { .. }
                 | Violation::Planner { .. }
                 | Violation::Verdict { .. }
@@ -274,7 +278,8 @@ impl<'a, R: Rules> Simulator<'a, R> {
 
     /// Asks the planner, and holds its answer to 01: the k lowest free units,
     /// the lowest free map, 9 only if fewer than k units are free. "Refusal 9
-    /// never occurs for one write when N-R is at least (C+1)·P." (02, request 5)
+    /// never occurs for one write when N-R is at least (C+1)·P" (02, request 5)
+    /// is no watch of its own: chunks hold at most C·P units, so P are free then.
     pub fn plan(
         &self,
         image: &[u8],
@@ -299,7 +304,6 @@ impl<'a, R: Rules> Simulator<'a, R> {
                 Ok(assemble(shape, request.chunk, size, &units, map))
             }
         };
-        let room_for_one = !shape.has_room() || answer.number != 9;
         let length = LONGEST_PLAN.min(16 * answer.value.min(64) as usize);
         let good = match &due {
             Ok(steps) => answer.number == 0 && encode(steps) == out[..length],
@@ -310,7 +314,7 @@ impl<'a, R: Rules> Simulator<'a, R> {
             }
         };
         let plan = out[..length].to_vec();
-        if !good || !room_for_one || answer.second != 0 || answer.extent != 0 {
+        if !good || answer.second != 0 || answer.extent != 0 {
             violations.push(Violation::Planner {
                 answer,
                 plan: decode(&plan),
@@ -468,13 +472,14 @@ impl<'a, R: Rules> Simulator<'a, R> {
         outcome
     }
 
-    /// The planner's plans and other legal ones pass, damaged ones do not.
-    fn expect(&self, event: &Event, answer: CAnswer, violations: &mut Vec<Violation>) {
+    /// The planner's plans and other legal ones pass, damaged ones and those on
+    /// reserved units do not.
+    pub fn expect(&self, event: &Event, answer: CAnswer, violations: &mut Vec<Violation>) {
         let (due, good) = match event.hand {
             Hand::Planner | Hand::Other => (Due::Pass, triple(answer) == [0; 3]),
             Hand::Damaged(rule) => (Due::Refuse { rule }, triple(answer) == [11, rule, 0]),
             // "A DATA step on a reserved unit breaks rule 2" (Decision 76).
-            Hand::Reserved => (Due::Refuse { rule: 2 }, triple(answer) == [11, 2, 0]),
+            Hand::Reserved { .. } => (Due::Refuse { rule: 2 }, triple(answer) == [11, 2, 0]),
             _ => return,
         };
         if !good {
@@ -568,11 +573,8 @@ impl<'a, R: Rules> Simulator<'a, R> {
         let mut words = [0; LOAD_WORDS];
         let answer = self.rules.load(&self.shape, image, &mut words);
         if answer.number == 0 && answer.value != self.shape.r {
-            violations.push(Violation::Answer {
-                call: "load's value",
-                answer: [answer.value, 0, 0],
-                due: [self.shape.r, 0, 0],
-            });
+            let value = answer.value;
+            violations.push(Violation::LoadValue { value });
         }
         if answer.number != 0 {
             violations.push(Violation::Load { answer });

@@ -3,8 +3,8 @@
 
 use sumbilak_reference::ffi::{self, CAnswer, LOAD_WORDS};
 use sumbilak_reference::inputs::{
-    assemble, decode, encode, entry, free_maps, mapped, put_entry, put_word, units_in, word,
-    Edition, Fields, Shape, FENCE as FENCE_STEP, X,
+    assemble, decode, encode, entry, free_maps, free_units, mapped, put_entry, put_word, units_in,
+    word, Edition, Fields, Shape, FENCE as FENCE_STEP, X,
 };
 
 use crate::event::{Request, LINK, MAP};
@@ -433,6 +433,20 @@ pub fn with_reserved_units_free(_: &Shape, image: &[u8], request: Request, plan:
     check(&unreserved(image), request, plan)
 }
 
+/// A checker to which they are free where other units are too few.
+pub fn with_reserved_units_at_need(
+    shape: &Shape,
+    image: &[u8],
+    request: Request,
+    plan: &[u8],
+) -> CAnswer {
+    if (free_units(shape, image).len() as u64) < request.k() {
+        with_reserved_units_free(shape, image, request, plan)
+    } else {
+        check(image, request, plan)
+    }
+}
+
 /// A loader and a planner to which reserved units are free; the checker is right
 /// or goes along with them.
 pub struct ReservedFree {
@@ -440,11 +454,9 @@ pub struct ReservedFree {
 }
 
 impl Rules for ReservedFree {
-    fn load(&self, shape: &Shape, image: &[u8], out: &mut [u64]) -> CAnswer {
-        CAnswer {
-            value: shape.r,
-            ..ffi::load(&unreserved(image), out)
-        }
+    /// Its value is then 0, too.
+    fn load(&self, _: &Shape, image: &[u8], out: &mut [u64]) -> CAnswer {
+        ffi::load(&unreserved(image), out)
     }
 
     fn plan(&self, shape: &Shape, image: &[u8], request: Request, out: &mut [u8]) -> CAnswer {
