@@ -420,10 +420,8 @@ impl Coverage {
             }
         }
         for (form, what) in forms::NAMES.iter().enumerate() {
-            // What is not asked for may come up all the same.
-            if forms::possible(entry, edition, form) {
-                tell(format!("form '{what}'"), seen.forms[form] > 0, true);
-            }
+            let possible = forms::possible(entry, edition, form);
+            tell(format!("form '{what}'"), seen.forms[form] > 0, possible);
         }
         if has_rules(entry) && edition > 0 {
             for rule in 1..=5 {
@@ -492,7 +490,7 @@ pub fn print(all: &[Coverage]) {
         });
         let counts: Vec<u64> = counts.collect();
         let (sum, least) = (counts.iter().sum::<u64>(), counts.iter().min());
-        println!("{what:<45}{sum:>8}, at least {}", least.unwrap_or(&0));
+        println!("{what:<50}{sum:>8}, at least {}", least.unwrap_or(&0));
     }
 
     println!("\nRefusal 11 by rule");

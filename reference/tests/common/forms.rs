@@ -12,10 +12,11 @@ use super::cases::{Call, Case, Entry};
 use super::repairs;
 use super::rows::Verdict;
 
-pub const COUNT: usize = 38;
+pub const COUNT: usize = 40;
 
 /// Forms of an image, then forms of a write's plan; the same with reserved
-/// units, requests between them; forms of a format.
+/// units, requests between them; forms of a format; two more of an image with
+/// reserved units.
 pub const NAMES: [&str; COUNT] = [
     "both tags, read as edition 1 and answered",
     "both tags, refused with 3",
@@ -54,22 +55,24 @@ pub const NAMES: [&str; COUNT] = [
     "rule 1 or 2, a reserved unit in MAP alone",
     "format, nothing wrong but R of N-P+1",
     "format, R good but for 2^32",
-    "format, N below P and R above 0",
+    "format, nothing wrong but N below P, R above 0",
+    "R next to a whole word of the free set, answered",
+    "unit 0 in a named map, and reserved",
 ];
 
 const IMAGES: usize = 11;
 const RESERVED: usize = 19;
 const FORMATS: usize = 35;
 
-/// Whether an entry point of an edition has to meet a form. Edition 1 has no
-/// sizes and no reserved units; a repair does not refuse them, and a converter
-/// refuses all of edition 2.
+/// Whether an entry point of an edition has to meet a form; if not, it must not
+/// meet it either. Edition 1 has no sizes and no reserved units; a repair does
+/// not refuse them, and a converter refuses all of edition 2.
 pub fn possible(entry: Entry, edition: usize, form: usize) -> bool {
     let converts = entry == Entry::Convert;
     let checks = matches!(entry, Entry::CheckWrite | Entry::CarryWrite);
     let format = matches!(entry, Entry::Format | Entry::Format2);
     match (edition, form) {
-        (2, FORMATS..) => entry == Entry::Format2,
+        (2, FORMATS..=37) => entry == Entry::Format2,
         _ if format => false,
         (1, 0 | 1) => true,
         (0, 2) => true,
@@ -78,7 +81,7 @@ pub fn possible(entry: Entry, edition: usize, form: usize) -> bool {
         (1 | 2, 11) => checks,
         (2, IMAGES..RESERVED) => checks,
         (2, 19 | 20) => true,
-        (2, 21..=26) => !converts,
+        (2, 21..=26 | 38 | 39) => !converts,
         (2, 27..=29) => entry == Entry::PlanWrite,
         (2, 30) => matches!(entry, Entry::AlarmCount | Entry::AlarmFraction),
         (2, 31) => entry == Entry::AlarmFraction,
@@ -153,8 +156,8 @@ pub fn of(case: &Case, answer: &[u64; 9], verdict: &Verdict) -> Vec<usize> {
 /// What is special about the R of a format.
 fn format_forms(numbers: [u64; 5], len: usize, answer: u64) -> Vec<usize> {
     let [p, c, m, n, r] = numbers;
-    // Whether another R would do.
-    let good_with = |r: u64| {
+    // Whether another N and R would do.
+    let good_with = |n: u64, r: u64| {
         let mut image = vec![0; len];
         model::format2(&mut image, p, c, m, n, r).is_ok()
     };
@@ -162,11 +165,11 @@ fn format_forms(numbers: [u64; 5], len: usize, answer: u64) -> Vec<usize> {
         return Vec::new();
     }
     let mut forms = Vec::new();
-    if r > 0 && n < p {
+    if r > 0 && n < p && good_with(p, 0) {
         forms.push(37);
-    } else if r >= inputs::TWO_32 && good_with(r % inputs::TWO_32) {
+    } else if r >= inputs::TWO_32 && good_with(n, r % inputs::TWO_32) {
         forms.push(36);
-    } else if n >= p && r == n - p + 1 && good_with(r - 1) {
+    } else if n >= p && r == n - p + 1 && good_with(n, r - 1) {
         forms.push(35);
     }
     forms
@@ -199,6 +202,9 @@ fn reserved_forms(shape: &Shape, image: &[u8], number: u64) -> Vec<usize> {
         if number == 0 && words.contains(&shape.r) {
             forms.push(24);
         }
+        if words.contains(&0) {
+            forms.push(39);
+        }
         if words
             .iter()
             .any(|&word| word < shape.r && !seen.insert(word))
@@ -208,6 +214,9 @@ fn reserved_forms(shape: &Shape, image: &[u8], number: u64) -> Vec<usize> {
     }
     if number == 0 {
         forms.push(21);
+        if shape.r >= 63 && [63, 0, 1].contains(&(shape.r % 64)) {
+            forms.push(38);
+        }
         let reserved = |map: u64| words(map).iter().any(|&word| word < shape.r);
         let mut dead = inputs::free_maps(shape, image).into_iter();
         if dead.any(reserved) {

@@ -1071,41 +1071,56 @@ fn units_under_r(give: &mut dyn FnMut(Case)) {
     }
 }
 
-/// A write of two units, with every unit in DATA and every unit or X in the MAP
-/// words, under every R; unit 7 is held.
+/// A write of two units, with every unit and N in DATA and every unit, N or X in
+/// the MAP words, under every R; where a whole word of the free set is reserved,
+/// with units next to it, and the first and last ones.
 fn plans_under_r(give: &mut dyn FnMut(Case)) {
+    let every: Vec<u32> = (0..=9).collect();
     for r in 0..=6 {
-        let shape = Shape::one(3, 2, 3, 9).reserving(r);
-        let mut image = inputs::fresh(&shape);
-        inputs::put_entry(&mut image, 0, 1);
-        inputs::put_units(&shape, &mut image, 1, &[7]);
+        plans_on(Shape::one(3, 2, 3, 9).reserving(r), &every, give);
+    }
+    let some = [0, 1, 62, 63, 64, 65, 68, 69, 70];
+    plans_on(Shape::one(3, 2, 34, 70).reserving(64), &some, give);
+}
+
+/// The same with these numbers; the last unit but one is held.
+fn plans_on(shape: Shape, numbers: &[u32], give: &mut dyn FnMut(Case)) {
+    let n = shape.n;
+    let mut image = inputs::fresh(&shape);
+    inputs::put_entry(&mut image, 0, 1);
+    inputs::put_units(&shape, &mut image, 1, &[n - 2]);
+    let good = inputs::assemble(&shape, 1, 8192, &[n - 1, n - 3], 0);
+    let mut check = |steps: &[Fields]| {
         let call = Call::CheckWrite {
             chunk: 1,
             size: 8192,
         };
-        let good = inputs::assemble(&shape, 1, 8192, &[8, 6], 0);
-        for (a, b) in (0..=9).flat_map(|a| (0..=9).map(move |b| (a, b))) {
-            // The same units in both, and any in MAP.
-            let values = || (0..=9).chain([X32]);
-            for (first, second) in values().flat_map(|v| values().map(move |w| (v, w))) {
-                let mut steps = good.clone();
-                (steps[0][1], steps[1][1]) = (a, b);
-                (steps[3][3], steps[4][3]) = (first, second);
-                give(Case {
-                    plan: inputs::encode(&steps),
-                    ..case(call.clone(), image.clone())
-                });
-            }
-        }
-        // After the units, where X is due.
-        for value in 0..=9 {
+        give(Case {
+            plan: inputs::encode(steps),
+            ..case(call, image.clone())
+        });
+    };
+    let values: Vec<u32> = numbers.iter().copied().chain([X32]).collect();
+    for (&a, &b) in numbers
+        .iter()
+        .flat_map(|a| numbers.iter().map(move |b| (a, b)))
+    {
+        // The same units in both, and any in MAP.
+        for (&first, &second) in values
+            .iter()
+            .flat_map(|v| values.iter().map(move |w| (v, w)))
+        {
             let mut steps = good.clone();
-            steps[5][3] = value;
-            give(Case {
-                plan: inputs::encode(&steps),
-                ..case(call.clone(), image.clone())
-            });
+            (steps[0][1], steps[1][1]) = (a, b);
+            (steps[3][3], steps[4][3]) = (first, second);
+            check(&steps);
         }
+    }
+    // After the units, where X is due.
+    for &value in numbers {
+        let mut steps = good.clone();
+        steps[5][3] = value;
+        check(&steps);
     }
 }
 
