@@ -141,7 +141,8 @@ impl Geometry {
             && (1..=256).contains(&c)
             && (c + 1..=c + 32).contains(&m)
             && (p..=p * m).contains(&n)
-            && r <= n - p;
+            && r <= n - p
+            && (edition == Edition::Two || r == 0);
         good.then_some(Geometry {
             edition,
             p: p as usize,

@@ -108,6 +108,17 @@ fn the_limits_of_r_in_format() {
     }
 }
 
+/// "A shape of edition 1 has R = 0." (Decision 74)
+#[test]
+fn edition_1_has_no_r_but_0() {
+    use crate::model::geometry::Geometry;
+    for r in 0..=17 {
+        let within = |edition| Geometry::within_limits(edition, [4, 4, 5, 20, r]);
+        assert_eq!(within(Edition::One).is_some(), r == 0);
+        assert_eq!(within(Edition::Two).is_some(), r <= 16);
+    }
+}
+
 /// The same limits in a trailer, where R has 32 bits; "the u32 after it must
 /// still be 0, else 3" (Decision 74).
 #[test]
@@ -176,7 +187,7 @@ fn load_and_shape_answer_r() {
 /// "so its bit in load's set is 0" (Decision 75), at every place of a word.
 #[test]
 fn the_bits_below_r_are_zero() {
-    for r in [0, 1, 62, 63, 64, 65, 127, 128, 129, 190] {
+    for r in 0..=190 {
         let units = load(&fresh2([2, 95, 96, 192, r])).unwrap().units;
         let free = (0..72 * 64).filter(|&u| units[u / 64] >> (u % 64) & 1 == 1);
         assert!(free.eq(r as usize..192));
@@ -287,7 +298,7 @@ fn plans_on_reserved_units() {
         broken(1, &|s| (s[0][1], s[4][3]) = (20, unit));
         broken(1, &|s| (s[0][1], s[4][3]) = (unit, 20));
     }
-    // The lowest units that are not reserved and not held.
+    // Unit 8 passes as well as 6, the lowest that is free.
     let mut steps = third_plan3();
     (steps[0][1], steps[3][3]) = (8, 8);
     assert_eq!(check(&steps), Ok(()));
