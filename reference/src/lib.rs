@@ -8,8 +8,8 @@
 //! * [`timing`] is the benchmarks' clock.
 //!
 //! "01" in the comments is the paper with the exact rules, "02" the changes
-//! requested since, "Decision n" an entry of the list of how open places of 01
-//! are read.
+//! requested since, "Decision n" an entry of the list of how open places of
+//! both are read.
 
 pub mod ffi;
 pub mod inputs;

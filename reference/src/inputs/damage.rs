@@ -231,7 +231,7 @@ fn break_geometry(rng: &mut Rng, shape: &Shape, image: &mut Vec<u8>) {
         3 | 4 => {
             let units = [p - 1, p * m + 1, 0, 0xFFFF_FFFF, n << 16, 4609];
             put_field(shape, image, 2, rng.pick(&units) as u32);
-            // N below P, with any R.
+            // N below P or above P·M, with any R.
             if shape.edition == Edition::Two && rng.chance(50) {
                 put_field(shape, image, 6, rng.pick(&[0, 1, 2, n as u32, u32::MAX]));
             }

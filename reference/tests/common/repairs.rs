@@ -17,7 +17,9 @@ use super::cases::{Case, Outcome};
 const FEW_CHUNKS: u64 = 40;
 const ONE_OF: u64 = 25;
 
-/// Edition and numbers of an image whose trailer is good.
+/// Edition and numbers as an image's trailer has them, in their limits or not:
+/// edition 1's where the last 32 bytes begin with its tag and version, else
+/// edition 2's, for which there must be 40 bytes.
 pub fn shape(image: &[u8]) -> Shape {
     let first = &image[image.len() - 32..];
     let (edition, trailer) = if first.starts_with(b"RMAP\x01\x00") {

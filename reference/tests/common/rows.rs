@@ -6,10 +6,11 @@
 //! the model's answer.
 //!
 //! "Each is given when its row holds and not otherwise, as far as that call
-//! has the input named." (01) The tables of an image can be located when its
-//! numbers keep the limits and fit the slice, even if the tag, the version, a
-//! distance or the length field is wrong; then rows 4 to 6 and what a request
-//! asks of them are judged too. Where neither edition has tag and version, the
+//! has the input named." (01) The tables of an image can be located when its P,
+//! C, M and N keep their limits and fit the slice, even if the tag, the version,
+//! a distance or the length field is wrong, R is past its limit or the last
+//! number is not 0; then rows 4 to 6 and what a request asks of them are judged
+//! too. Where neither edition has tag and version, the
 //! tables are those of the first edition whose numbers fit. Where the tables
 //! cannot be located, a request counts as bad only if it is bad for every
 //! volume of either edition.
