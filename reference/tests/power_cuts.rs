@@ -89,14 +89,6 @@ const fn two(p: u64, c: u64, m: u64, n: u64) -> Shape {
     shape(p, c, m, n).in_edition(Edition::Two)
 }
 
-/// The same geometry with this many units reserved, or fewer: they are put
-/// before its own as far as P·M allows, and P are left.
-fn with_reserved(shape: Shape, r: u64) -> Shape {
-    let n = (shape.n + r).min(shape.p * shape.m);
-    let shape = Shape { n, ..shape };
-    shape.reserving(r.min(shape.most_reserved()))
-}
-
 /// What a volume is called by its edition and reserved units.
 fn kind(shape: &Shape) -> String {
     match (shape.edition, shape.r) {
@@ -151,7 +143,7 @@ fn volumes() -> impl Iterator<Item = (Shape, u64)> {
         [
             (shape, lists),
             (shape.in_edition(Edition::Two), lists.div_ceil(5)),
-            (with_reserved(shape, reserved), lists.div_ceil(3)),
+            (shape.reserving_before(reserved), lists.div_ceil(3)),
         ]
     })
 }
@@ -461,7 +453,7 @@ fn of_every_short_plan_only_the_legal_ones_pass() {
     for shape in [
         smallest,
         smallest.in_edition(Edition::Two),
-        with_reserved(smallest, 1),
+        smallest.reserving_before(1),
     ] {
         all_good &= every_short_plan(shape, &mut rows);
     }

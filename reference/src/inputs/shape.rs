@@ -43,6 +43,14 @@ impl Shape {
         Shape { edition, r, ..self }
     }
 
+    /// The same in edition 2, with this many units reserved, or fewer: they are
+    /// put before its own as far as P·M allows, and P are left.
+    pub fn reserving_before(self, r: u64) -> Self {
+        let n = (self.n + r).min(self.p * self.m);
+        let longer = Shape { n, ..self };
+        longer.reserving(r.min(longer.most_reserved()))
+    }
+
     /// The numbers that are units: R to N-1.
     pub const fn units(&self) -> Range<u64> {
         self.r..self.n
@@ -55,11 +63,6 @@ impl Shape {
     /// The most units that can be reserved: N-P.
     pub const fn most_reserved(&self) -> u64 {
         self.n.saturating_sub(self.p)
-    }
-
-    /// "N-R is at least (C+1)·P" (02, request 5): room for any one write.
-    pub const fn has_room(&self) -> bool {
-        self.n >= (self.c + 1) * self.p + self.r
     }
 
     /// Words of a map before its units: the size, in edition 2.
@@ -158,12 +161,11 @@ pub fn shape(rng: &mut Rng) -> Shape {
         Edition::One => one,
         Edition::Two => {
             let r = reserved(rng, &one);
-            // Taken from the N units or, as far as P·M allows, put before them.
-            let n = match rng.chance(50) {
-                true => one.n,
-                false => (one.n + r).min(p * m),
-            };
-            Shape { n, ..one }.reserving(r)
+            // Taken from the N units, or put before them.
+            match rng.chance(50) {
+                true => one.reserving(r),
+                false => one.reserving_before(r),
+            }
         }
     }
 }

@@ -124,7 +124,6 @@ fn reserved_units_come_up_in_every_way() {
         assert!(r + p <= n && (r == 0 || shape.edition == Edition::Two));
         assert_eq!(shape.in_edition(Edition::One).r, 0);
         let room = (c + 1) * p;
-        assert_eq!(shape.has_room(), n - r >= room);
         let kinds = [
             shape.edition == Edition::Two && r == 0,
             (1..=3).contains(&r),

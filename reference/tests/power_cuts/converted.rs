@@ -13,7 +13,7 @@ use crate::lists;
 use crate::rules::Rules;
 use crate::simulate::{Simulator, Violation};
 use crate::volume::{Held, Volume};
-use crate::{seed, two, wrong, LEDGER, LOAD, SIZE, SIZE_FLAW, TRAILER, VOLUMES};
+use crate::{seed, two, wrong, LEDGER, LOAD, SIZE, SIZE_FLAW, TRAILER, VOLUMES, VOLUME_64K};
 
 /// What was converted.
 #[derive(Clone, Debug, Default)]
@@ -146,7 +146,7 @@ fn every_sound_image_of_small_volumes_converted() {
 const CONVERSION: &str = "conversion";
 
 /// The 64 KB volume in edition 2.
-const SHAPE: Shape = two(4, 4, 5, 20);
+const SHAPE: Shape = VOLUME_64K.in_edition(Edition::Two);
 
 /// Runs a wrong converter until each of these violations is seen.
 fn notice(rule: &str, convert: wrong::ConvertFn, violations: &[&str]) {

@@ -29,7 +29,7 @@ fn refusal(number: u64, place: u64) -> CAnswer {
 
 /// Carries out what a wrong checker let pass; the library's carrier would
 /// check for itself.
-fn carry_as_judged(
+pub fn carry_as_judged(
     shape: &Shape,
     image: &mut [u8],
     plan: &[u8],
@@ -52,20 +52,10 @@ fn carry_as_judged(
 pub struct Checker(pub fn(&Shape, &[u8], Request, &[u8]) -> CAnswer);
 
 impl Rules for Checker {
+    const BELIEVED: bool = true;
+
     fn check(&self, shape: &Shape, image: &[u8], request: Request, plan: &[u8]) -> CAnswer {
         (self.0)(shape, image, request, plan)
-    }
-
-    fn carry(
-        &self,
-        shape: &Shape,
-        image: &mut [u8],
-        request: Request,
-        plan: &[u8],
-        n: u64,
-    ) -> CAnswer {
-        let verdict = (self.0)(shape, image, request, plan);
-        carry_as_judged(shape, image, plan, n, verdict)
     }
 }
 
@@ -173,6 +163,8 @@ pub struct GreedyPlanner {
 }
 
 impl Rules for GreedyPlanner {
+    const BELIEVED: bool = true;
+
     fn plan(&self, shape: &Shape, image: &[u8], request: Request, out: &mut [u8]) -> CAnswer {
         if request.size.is_none() || !request.is_good(shape) {
             return Library.plan(shape, image, request, out);
@@ -194,18 +186,6 @@ impl Rules for GreedyPlanner {
         } else {
             check(image, request, plan)
         }
-    }
-
-    fn carry(
-        &self,
-        shape: &Shape,
-        image: &mut [u8],
-        request: Request,
-        plan: &[u8],
-        n: u64,
-    ) -> CAnswer {
-        let verdict = self.check(shape, image, request, plan);
-        carry_as_judged(shape, image, plan, n, verdict)
     }
 }
 
@@ -454,6 +434,8 @@ pub struct ReservedFree {
 }
 
 impl Rules for ReservedFree {
+    const BELIEVED: bool = true;
+
     /// Its value is then 0, too.
     fn load(&self, _: &Shape, image: &[u8], out: &mut [u64]) -> CAnswer {
         ffi::load(&unreserved(image), out)
@@ -469,18 +451,6 @@ impl Rules for ReservedFree {
         } else {
             check(image, request, plan)
         }
-    }
-
-    fn carry(
-        &self,
-        shape: &Shape,
-        image: &mut [u8],
-        request: Request,
-        plan: &[u8],
-        n: u64,
-    ) -> CAnswer {
-        let verdict = self.check(shape, image, request, plan);
-        carry_as_judged(shape, image, plan, n, verdict)
     }
 }
 
