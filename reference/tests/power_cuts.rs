@@ -687,6 +687,12 @@ fn a_checker_that_takes_reserved_units_for_free_is_caught() {
     notice_on(WITH_RESERVED, rule, &rules, &kinds);
     let needy = scopes().filter(|scope| scope.depth.is_none());
     needy.for_each(|scope| notice_in_scope(rule, &rules, scope, &kinds));
+
+    // "A DATA step on a reserved unit breaks rule 2" (Decision 76), not another.
+    let rules = wrong::Checker(wrong::with_reserved_units_no_units);
+    let rule = "reserved units refused by rule 1";
+    notice_on(WITH_RESERVED, rule, &rules, &[VERDICT]);
+    scopes().for_each(|scope| notice_in_scope(rule, &rules, scope, &[VERDICT]));
 }
 
 /// The same of a loader and a planner; then the library's checker lets no such

@@ -285,6 +285,8 @@ fn a_checker_wrong_on_reserved_units_is_caught_after_a_repair() {
     notice_in_scope("reserved units free", &rules, &EVERY_IMAGE[5], &kinds);
     let rules = wrong::Checker(wrong::with_reserved_units_at_need);
     notice_in_scope("reserved at need", &rules, &EVERY_IMAGE[5], &kinds);
+    let rules = wrong::Checker(wrong::with_reserved_units_no_units);
+    notice_in_scope("rule 1", &rules, &EVERY_IMAGE[5], &[VERDICT]);
 }
 
 /// What no event list can give away, because the image is sound: that one side

@@ -7,7 +7,7 @@ use sumbilak_reference::inputs::{
     word, Edition, Fields, Shape, FENCE as FENCE_STEP, X,
 };
 
-use crate::event::{Request, LINK, MAP};
+use crate::event::{Request, DATA, LINK, MAP};
 use crate::rules::{carry_step, check, Fate, Library, Rules};
 use crate::volume::{faults, Fault, Held};
 
@@ -424,6 +424,20 @@ pub fn with_reserved_units_at_need(
         with_reserved_units_free(shape, image, request, plan)
     } else {
         check(image, request, plan)
+    }
+}
+
+/// A checker that refuses them, but by rule 1, which says "units below N" (01).
+pub fn with_reserved_units_no_units(
+    shape: &Shape,
+    image: &[u8],
+    request: Request,
+    plan: &[u8],
+) -> CAnswer {
+    let reserved = |step: &Fields| step[0] == DATA && u64::from(step[1]) < shape.r;
+    match check(image, request, plan) {
+        broken if broken.number == 11 && decode(plan).iter().any(reserved) => refusal(11, 1),
+        answer => answer,
     }
 }
 
