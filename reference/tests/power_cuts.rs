@@ -227,7 +227,10 @@ fn random_event_lists() {
     assert!(mutated.iter().all(|&count| count > 0), "mutated plans");
     for room in [true, false] {
         let [accepted, refused, _] = all.hands[Hand::Reserved { room }.index()];
-        assert!(accepted == 0 && refused > 100, "reserved units, {room}");
+        assert!(
+            accepted == 0 && refused > 100,
+            "plans on reserved units, room: {room}"
+        );
     }
     assert!(all.cut_linked > 100 && all.cut_partial > 100);
 }
@@ -685,7 +688,7 @@ fn a_checker_that_takes_reserved_units_for_free_is_caught() {
     let rules = wrong::Checker(wrong::with_reserved_units_at_need);
     let rule = "reserved units free where others are too few";
     notice_on(WITH_RESERVED, rule, &rules, &kinds);
-    let needy = scopes().filter(|scope| scope.depth.is_none());
+    let needy = scopes().filter(|scope| scope.wants_units());
     needy.for_each(|scope| notice_in_scope(rule, &rules, scope, &kinds));
 
     // "A DATA step on a reserved unit breaks rule 2" (Decision 76), not another.

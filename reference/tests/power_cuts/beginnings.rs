@@ -21,8 +21,9 @@ use crate::{any, name, seed, times, CHANCES};
 pub trait Beginning: Default + for<'a> AddAssign<&'a Self> {
     /// As in 'after a repair'.
     const NAME: &'static str;
-    /// As in 'every image of small volumes, repaired', with the last word.
+    /// What is gone through, as in 'every image of small volumes, repaired'.
     const IMAGE: &'static str;
+    /// The last word of that.
     const DONE: &'static str;
 
     fn titles() -> Vec<&'static str>;

@@ -73,11 +73,20 @@ impl Scope {
         self.depth.is_none()
     }
 
-    /// Whether plans on reserved units were tried, if there are such, and where
-    /// lists of any length come to want units, for want of others too.
+    /// Whether units become too few in its lists. "Refusal 9 never occurs for one
+    /// write when N-R is at least (C+1)·P" (02, request 5), nor where it is P for
+    /// each event of a list.
+    pub fn wants_units(&self) -> bool {
+        let Shape { p, c, n, r, .. } = self.shape;
+        let before = self.depth.map_or(c, |depth| c.min(depth as u64 - 1));
+        n - r < (before + 1) * p
+    }
+
+    /// Whether plans on reserved units were tried, if there are such, and for
+    /// want of others exactly where it comes to that.
     pub fn tries_reserved(&self, tally: &Tally) -> bool {
-        let at_need = self.depth.is_some() || tally.out_of_reserved > 0;
-        self.shape.r == 0 || tally.on_reserved > 0 && at_need
+        let at_need = tally.out_of_reserved > 0;
+        self.shape.r == 0 || tally.on_reserved > 0 && at_need == self.wants_units()
     }
 }
 
