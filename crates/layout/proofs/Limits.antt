@@ -1,5 +1,5 @@
 -- What the limits of a shape say of its numbers, and the sizes that follow.
-use Prim.Native.Nat.{ℕ, _+_, _-_, _*_, _≤_, _<_}
+use Prim.Native.Nat.{ℕ, _+_, _-_, _*_, _^_, _%_, _≤_, _<_}
 use mathlib.Core.Path.{_≡_, refl, sym, ap, subst, _∙_}
 use mathlib.Core.Bool.{Bool, true, false, not, _&&_, _||_, cond}
 use mathlib.Core.Logic.{_⊎_, inl, inr, ⊎-elim}
@@ -218,6 +218,15 @@ reserved-no-unit g u h = is-false (isUnit g u) (λ e. let l = unit-unreserved g 
 
 pub past-units : (g : Shape) (u : ℕ) → g .n ≤ u → isUnit g u ≡ false
 past-units g u h = is-false (isUnit g u) (λ e. let l = unit-below g u e in omega arith)
+
+-- the same by one comparison: w is u less R, wrapped
+pub wrapped-unit : (g : Shape) (u w : ℕ) → g .n < 2 ^ 32 → g .r < 2 ^ 32 → w < 2 ^ 64 → (w + g .r) % 2 ^ 64 ≡ u → ltb w (g .n - g .r) ≡ isUnit g u
+wrapped-unit g u w n r b e =
+    ⊎-elim
+    (λ q. let l = ltb-true w (g .n - g .r) q in q ∙ sym (between-unit g u (omega arith) (omega arith)))
+    (λ q. let l = ltb-false w (g .n - g .r) q in
+    q ∙ sym (is-false (isUnit g u) (λ h. let low = unit-unreserved g u h in let high = unit-below g u h in omega arith)))
+    (either (ltb w (g .n - g .r)))
 
 pub absent-no-unit : (g : Shape) → Limits g → isUnit g X ≡ false
 absent-no-unit g l = let n = units-high g l in past-units g X (omega arith)

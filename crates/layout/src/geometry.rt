@@ -3,7 +3,7 @@ use crate::FIRST_EDITION;
 use crate::Shape;
 use crate::UNIT_BYTES;
 ghost use mathlib.Core.Path.{_≡_};
-ghost use Prim.Native.Nat.{_<_, _≤_};
+ghost use Prim.Native.Nat.{_-_, _<_, _≤_};
 ghost use Rattle.layout.specs.Layout.{isUnit, unitsFor, isSize, head, mapWords, mapWordPlace};
 ghost use Rattle.layout.specs.Layout.{maxChunkUnits, maxChunkBytes, maxHead, maxMapWords, maxWords};
 ghost use Rattle.layout.specs.Shaped.{Limits, wordCount};
@@ -35,14 +35,23 @@ pub fn map_word_place(g: Shape, k: usize, j: usize) -> usize
     c + k * w + j
 }
 
-// Whether a number is a unit that a chunk may hold: below N, and not reserved.
+// How many units there are that a chunk may hold: all but the reserved ones.
+fn unit_count(g: Shape) -> u32
+    ensures { λ r. ⌜ r ≡ g .n - g .r ⌝ }
+{
+    if g.n < g.r {
+        return 0;
+    }
+    g.n - g.r
+}
+
+// Whether a number is a unit that a chunk may hold: below N, and not reserved. This is asked of every word that may name a unit, so it is one comparison:
+// less R, a reserved number wraps to one that is past them all.
 pub fn is_unit(g: Shape, u: u64) -> bool
     ensures { λ r. ⌜ r ≡ isUnit g u ⌝ }
 {
-    if u < g.r as u64 {
-        return false;
-    }
-    u < g.n as u64
+    let past = std::num::wrapping_sub_u64(u, g.r as u64);
+    past < unit_count(g) as u64
 }
 
 // How many units a compressed size takes.
