@@ -118,13 +118,23 @@ fn free_maps(image: &[u8]) -> Vec<u64> {
         .collect()
 }
 
-/// The example after its first three writes.
-fn worked() -> Vec<u8> {
-    let mut image = small();
+/// A fresh volume after the example's first two writes.
+fn two_writes(mut image: Vec<u8>) -> Vec<u8> {
     write(&mut image, 2, 6144);
     write(&mut image, 0, 3072);
+    image
+}
+
+/// The same after the third one.
+fn three_writes(image: Vec<u8>) -> Vec<u8> {
+    let mut image = two_writes(image);
     write(&mut image, 0, 5120);
     image
+}
+
+/// The example after its first three writes.
+fn worked() -> Vec<u8> {
+    three_writes(small())
 }
 
 /// Chunk 0 to map 2 as in the third write, hand-written.
@@ -142,12 +152,25 @@ fn third_plan() -> Vec<[u32; 4]> {
     ]
 }
 
+/// The same in edition 2, on these units.
+fn third_plan_on(units: [u32; 2]) -> Vec<[u32; 4]> {
+    vec![
+        [1, units[0], 0, 0],
+        [1, units[1], 1, 0],
+        [2, 2, 0, 5120],
+        [2, 2, 1, units[0]],
+        [2, 2, 2, units[1]],
+        [2, 2, 3, X32],
+        [2, 2, 4, X32],
+        [4, 0, 0, 0],
+        [3, 0, 0, 2],
+        [4, 0, 0, 0],
+    ]
+}
+
 /// The example before its third write.
 fn before_third() -> Vec<u8> {
-    let mut image = small();
-    write(&mut image, 2, 6144);
-    write(&mut image, 0, 3072);
-    image
+    two_writes(small())
 }
 
 #[test]

@@ -9,32 +9,15 @@ fn small2() -> Vec<u8> {
 }
 
 fn before_third2() -> Vec<u8> {
-    let mut image = small2();
-    write(&mut image, 2, 6144);
-    write(&mut image, 0, 3072);
-    image
+    two_writes(small2())
 }
 
 fn worked2() -> Vec<u8> {
-    let mut image = before_third2();
-    write(&mut image, 0, 5120);
-    image
+    three_writes(small2())
 }
 
-/// The third write's plan in edition 2, hand-written.
 fn third_plan2() -> Vec<[u32; 4]> {
-    vec![
-        [1, 3, 0, 0],
-        [1, 4, 1, 0],
-        [2, 2, 0, 5120],
-        [2, 2, 1, 3],
-        [2, 2, 2, 4],
-        [2, 2, 3, X32],
-        [2, 2, 4, X32],
-        [4, 0, 0, 0],
-        [3, 0, 0, 2],
-        [4, 0, 0, 0],
-    ]
+    third_plan_on([3, 4])
 }
 
 fn check_third2(steps: &[[u32; 4]]) -> Answer<()> {

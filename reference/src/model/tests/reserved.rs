@@ -11,33 +11,16 @@ fn reserving(r: u64) -> Vec<u8> {
 /// 01's three writes with three units reserved: chunk 2 on units 3 and 4 by map
 /// 0, chunk 0 on units 6 and 7 by map 2.
 fn worked3() -> Vec<u8> {
-    let mut image = before_third3();
-    write(&mut image, 0, 5120);
-    image
+    three_writes(reserving(3))
 }
 
 /// The same before the third write: chunk 0 on unit 5 by map 1.
 fn before_third3() -> Vec<u8> {
-    let mut image = reserving(3);
-    write(&mut image, 2, 6144);
-    write(&mut image, 0, 3072);
-    image
+    two_writes(reserving(3))
 }
 
-/// The third write's plan, hand-written.
 fn third_plan3() -> Vec<[u32; 4]> {
-    vec![
-        [1, 6, 0, 0],
-        [1, 7, 1, 0],
-        [2, 2, 0, 5120],
-        [2, 2, 1, 6],
-        [2, 2, 2, 7],
-        [2, 2, 3, X32],
-        [2, 2, 4, X32],
-        [4, 0, 0, 0],
-        [3, 0, 0, 2],
-        [4, 0, 0, 0],
-    ]
+    third_plan_on([6, 7])
 }
 
 /// "The first of edition 2's two last u32 becomes R": a number at byte 32 of the
