@@ -121,7 +121,7 @@ held-unit s u m =
     let r = any-below (λ i. member u (unitsOf s i)) (shapeOf s .c) (sym (member-joined (unitsOf s) u (below (shapeOf s .c))) ∙ m) in
     units-are-units s u (r .0) (r .2)
 
-held-below : (s : List ℕ) (u : ℕ) → member u (heldUnits s) ≡ true → u < shapeOf s .n
+pub held-below : (s : List ℕ) (u : ℕ) → member u (heldUnits s) ≡ true → u < shapeOf s .n
 held-below s u m = unit-below (shapeOf s) u (held-unit s u m)
 
 -- a shape has N-R units

@@ -35,7 +35,7 @@ use Rattle.image.proofs.Chunks.{reserved-bad}
 use Rattle.image.proofs.SoundLaws.{passed-tested, tested-passed}
 use Rattle.image.proofs.Wording.{tested-sound, sound-tested, sound-shape, sound-first, sound-second, held-named, named-held}
 use Rattle.image.proofs.Refusing.{refused-row, row-refused}
-use Rattle.image.proofs.Room.{freeUnit-unreserved, free-or-held, held-unit, distinct-held, free-and-held, some-map-free, units-free}
+use Rattle.image.proofs.Room.{freeUnit-unreserved, free-or-held, held-unit, held-below, distinct-held, free-and-held, some-map-free, units-free}
 use Rattle.image.proofs.Storing.{size-of-units}
 use Rattle.image.proofs.Fresh.{word-fresh, sound-fresh, freeUnit-fresh, freeMap-fresh}
 
@@ -88,13 +88,13 @@ sound-or-refused s b = by-verdict (verdict s) refl
 
 -- ---- "Held units are those in named maps; all others are free."
 
--- Of the units that are not reserved each is free or held and not both; what is held is such a unit, and in a sound image held once, so that both
--- together are N-R.
+-- Of the units that are not reserved each is free or held and not both; what is held is a unit below N, not reserved, and in a sound image held once, so
+-- that both together are N-R.
 pub units-part : (s : List ℕ) (u : ℕ) → isUnit (shapeOf s) u ≡ true → freeUnit s u ≡ not (member u (heldUnits s))
 units-part = free-or-held
 
-pub held-are-units : (s : List ℕ) (u : ℕ) → member u (heldUnits s) ≡ true → isUnit (shapeOf s) u ≡ true
-held-are-units = held-unit
+pub held-are-units : (s : List ℕ) (u : ℕ) → member u (heldUnits s) ≡ true → u < shapeOf s .n
+held-are-units = held-below
 
 -- "Units below R are never free and never held"
 pub reserved-never-free : (s : List ℕ) (u : ℕ) → u < shapeOf s .r → freeUnit s u ≡ false
