@@ -264,6 +264,10 @@ static void reserved_units(void)
     is("units 16 to 19", units_in(image, IMAGE2, 1), 0x10111213);
     is("and leaves none", sumbilak_plan_write(image, IMAGE2, 0, 1, plan, sizeof plan).number, 9);
     is("free 0", sumbilak_plan_write(image, IMAGE2, 0, 1, plan, sizeof plan).place, 0);
+    /* the rounded product decides: 0.8 is a little above 16/20, and 0.8 * 20 rounds to 16, as many as are free */
+    is("four reserved", sumbilak_format2(image, IMAGE2, P, C, M, N, 4).number, 0);
+    is("0.8 of N is silent", sumbilak_alarm_fraction(image, IMAGE2, 0.8).value, 0);
+    is("0.8125 of N sounds", sumbilak_alarm_fraction(image, IMAGE2, 0.8125).value, 1);
     is("none reserved", sumbilak_format2(image, IMAGE2, P, C, M, N, 0).number, 0);
     is("R 0", sumbilak_load(image, IMAGE2, loaded, SUMBILAK_LOAD_WORDS).value, 0);
     is("format", sumbilak_format2(image, IMAGE2, P, C, M, N, R).number, 0);

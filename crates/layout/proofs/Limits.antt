@@ -219,7 +219,7 @@ reserved-no-unit g u h = is-false (isUnit g u) (λ e. let l = unit-unreserved g 
 pub past-units : (g : Shape) (u : ℕ) → g .n ≤ u → isUnit g u ≡ false
 past-units g u h = is-false (isUnit g u) (λ e. let l = unit-below g u e in omega arith)
 
--- the same by one comparison: w is u less R, wrapped
+-- what is a unit, by one comparison: w is u less R, wrapped
 pub wrapped-unit : (g : Shape) (u w : ℕ) → g .n < 2 ^ 32 → g .r < 2 ^ 32 → w < 2 ^ 64 → (w + g .r) % 2 ^ 64 ≡ u → ltb w (g .n - g .r) ≡ isUnit g u
 wrapped-unit g u w n r b e =
     ⊎-elim
