@@ -19,7 +19,8 @@ pub use crate::model::Edition;
 
 pub use damage::{damage, damaged, image, tables_damaged, wild};
 pub use plan::{
-    assemble, decode, discard_plan, encode, mutate, plan, step_count, write_plan, Fields, FENCE,
+    assemble, decode, discard_plan, encode, miscounted, mutate, orders, other_units, plan, put_on,
+    step_count, write_plan, Fields, FENCE,
 };
 pub use request::{chunk, count, fraction, good_size, range, room, size, size_of};
 pub use shape::{blank, fresh, past_a_limit, reserved_unit, shape, Shape};

@@ -44,9 +44,27 @@ pub fn assemble(shape: &Shape, chunk: u64, size: u64, units: &[u64], map: u64) -
         .collect()
 }
 
-/// A good plan for a write of a good size, on units and a map that are free
-/// but otherwise any; if too few are free, held or reserved ones fill the gap
-/// and the plan is bad. It is made for the base's geometry in this edition.
+/// Every order of the steps.
+pub fn orders(steps: &[Fields]) -> Vec<Vec<Fields>> {
+    if steps.is_empty() {
+        return vec![Vec::new()];
+    }
+    let mut all = Vec::new();
+    for at in 0..steps.len() {
+        let mut rest = steps.to_vec();
+        let first = rest.remove(at);
+        for mut order in orders(&rest) {
+            order.insert(0, first);
+            all.push(order);
+        }
+    }
+    all
+}
+
+/// A good plan for a write of a good size: on the lowest free units, piece 0 on
+/// the lowest, and otherwise in any way, by any free map. If too few units are
+/// free, held or reserved ones fill the gap and the plan is bad. It is made for
+/// the base's geometry in this edition.
 pub fn write_plan(
     rng: &mut Rng,
     base: &Base,
@@ -57,16 +75,90 @@ pub fn write_plan(
     let shape = &base.shape;
     let k = size.div_ceil(UNIT);
     let mut units = free_units(shape, &base.image);
-    let mut maps = free_maps(shape, &base.image);
-    if rng.chance(60) {
-        rng.shuffle(&mut units);
-        rng.shuffle(&mut maps);
-    }
     while (units.len() as u64) < k {
         units.push(rng.below(shape.n));
     }
     units.truncate(k as usize);
-    assemble(&shape.in_edition(edition), chunk, size, &units, maps[0])
+    let maps = free_maps(shape, &base.image);
+    let map = if rng.chance(60) {
+        rng.pick(&maps)
+    } else {
+        maps[0]
+    };
+    let mut steps = assemble(&shape.in_edition(edition), chunk, size, &units, map);
+    if rng.chance(40) {
+        rearrange(rng, &mut steps);
+    }
+    steps
+}
+
+/// What the rules leave free of a write's plan that is in the planner's order:
+/// the order of its DATA and MAP steps, and more fences.
+fn rearrange(rng: &mut Rng, steps: &mut Vec<Fields>) {
+    let stores = steps.len() - 3;
+    let data = of_kind(steps, 1).len();
+    match rng.below(4) {
+        0 => {}
+        1 => steps[..stores].reverse(),
+        2 => rng.shuffle(&mut steps[..data]),
+        _ => rng.shuffle(&mut steps[..stores]),
+    }
+    for _ in 0..rng.pick(&[0, 0, 1, 2, 5]) {
+        steps.insert(rng.index(steps.len() + 1), FENCE);
+    }
+}
+
+/// Different free units for k pieces, other than the lowest ones or in another
+/// order; None if there are none of the kind that was drawn. The free ones are
+/// given, rising.
+pub fn other_units(rng: &mut Rng, free: &[u64], k: usize) -> Option<Vec<u64>> {
+    let lowest = free.get(..k).filter(|lowest| !lowest.is_empty())?;
+    let more = free.len() - k;
+    let mut units = lowest.to_vec();
+    match rng.below(6) {
+        // Each one place too high.
+        0 if more > 0 => units.copy_from_slice(&free[1..=k]),
+        // Two the other way round.
+        1 | 2 => {
+            let (a, b) = (rng.index(k), rng.index(k));
+            units.swap(a, b);
+        }
+        // One higher than all of the lowest.
+        3 if more > 0 => units[rng.index(k)] = free[k + rng.index(more)],
+        // The highest, rising or falling.
+        4 => {
+            units.copy_from_slice(&free[more..]);
+            if rng.chance(50) {
+                units.reverse();
+            }
+        }
+        _ => {
+            let mut any = free.to_vec();
+            rng.shuffle(&mut any);
+            units.copy_from_slice(&any[..k]);
+        }
+    }
+    (units != lowest).then_some(units)
+}
+
+/// The k lowest units where one, some or all of these, which are not free, count
+/// as free; None if that comes to the lowest free ones, or to too few.
+pub fn miscounted(rng: &mut Rng, free: &[u64], taken: &[u64], k: usize) -> Option<Vec<u64>> {
+    // Those that would be among the lowest then.
+    let last = free.get(k.checked_sub(1)?);
+    let low = |unit: &u64| last.is_none_or(|last| unit < last);
+    let mut counted: Vec<u64> = taken.iter().copied().filter(low).collect();
+    match rng.below(3) {
+        0 => {}
+        1 => counted = vec![rng.pick_any(&counted)?],
+        _ => counted.retain(|_| rng.chance(50)),
+    }
+    if counted.is_empty() {
+        return None;
+    }
+    counted.extend(free);
+    counted.sort_unstable();
+    counted.get(..k).map(<[u64]>::to_vec)
 }
 
 /// A plan for a discard as the planner makes it.
@@ -171,6 +263,9 @@ pub fn mutate(rng: &mut Rng, base: &Base, chunk: u64, steps: &mut Vec<Fields>) {
         return mutate_size(rng, shape, steps);
     }
     let len = steps.len();
+    if rng.chance(6) {
+        return misplace(rng, base, chunk, steps);
+    }
     if shape.r > 0 && rng.chance(5) {
         // A MAP word with a reserved unit, and DATA as it was.
         let words = of_kind(steps, 2);
@@ -314,15 +409,69 @@ pub fn mutate(rng: &mut Rng, base: &Base, chunk: u64, steps: &mut Vec<Fields>) {
     }
 }
 
+/// The units that a chunk holds.
+fn held_by(base: &Base, chunk: u64) -> Vec<u64> {
+    let Base { shape, image } = base;
+    if chunk < shape.c && entry(image, chunk) < shape.m {
+        units_in(shape, image, entry(image, chunk))
+    } else {
+        Vec::new()
+    }
+}
+
+/// A plan with other units for its pieces, in DATA and in MAP alike: different
+/// free ones, or the lowest where the chunk's own old units, those of others or
+/// reserved ones count as free.
+fn misplace(rng: &mut Rng, base: &Base, chunk: u64, steps: &mut [Fields]) {
+    let Base { shape, image } = base;
+    let free = free_units(shape, image);
+    let k = of_kind(steps, 1).len();
+    let units = match rng.below(10) {
+        0..=4 => other_units(rng, &free, k),
+        5 | 6 => miscounted(rng, &free, &held_by(base, chunk), k),
+        7 | 8 => {
+            let others = mapped(shape, image).into_iter().filter(|&at| at != chunk);
+            let held: Vec<u64> = others.flat_map(|other| held_by(base, other)).collect();
+            miscounted(rng, &free, &held, k)
+        }
+        _ => {
+            let reserved: Vec<u64> = (0..shape.r).collect();
+            miscounted(rng, &free, &reserved, k)
+        }
+    };
+    if let Some(units) = units {
+        put_on(shape, steps, &units);
+    }
+}
+
+/// Puts each piece of a plan on another unit, in DATA and, where it says the
+/// same, in MAP.
+pub fn put_on(shape: &Shape, steps: &mut [Fields], units: &[u64]) {
+    let first = shape.size_words() as u32;
+    let old = steps.to_vec();
+    for data in old.iter().filter(|step| step[0] == 1) {
+        let [_, was, piece, _] = *data;
+        let Some(&unit) = units.get(piece as usize) else {
+            continue;
+        };
+        for (step, old) in steps.iter_mut().zip(&old) {
+            match *old {
+                [1, _, of, _] if of == piece => step[1] = unit as u32,
+                [2, _, word, value] if Some(word) == piece.checked_add(first) && value == was => {
+                    step[3] = unit as u32;
+                }
+                _ => {}
+            }
+        }
+    }
+}
+
 fn other_unit(rng: &mut Rng, base: &Base, chunk: u64) -> u64 {
     let shape = &base.shape;
-    let own = chunk < shape.c && entry(&base.image, chunk) < shape.m;
+    let own = held_by(base, chunk);
     match rng.below(4) {
         3 if shape.r > 0 => reserved_unit(rng, shape),
-        0 if own => {
-            let units = units_in(shape, &base.image, entry(&base.image, chunk));
-            rng.pick(&units)
-        }
+        0 if !own.is_empty() => rng.pick(&own),
         1 => {
             let units = free_units(shape, &base.image);
             rng.pick_any(&units).unwrap_or(shape.r)
@@ -331,9 +480,9 @@ fn other_unit(rng: &mut Rng, base: &Base, chunk: u64) -> u64 {
     }
 }
 
-/// A plan for one case: the planner's own or another good one, changed in up
-/// to three ways, made for another request or the other edition, partial, or
-/// random.
+/// A plan for one case: the planner's own or another good one, on other units
+/// or changed in up to three ways, made for another request or the other
+/// edition, partial, or random.
 pub fn plan(rng: &mut Rng, base: &Base, chunk: u64, size: Option<u64>) -> Vec<u8> {
     let shape = &base.shape;
     let good = |size: u64| (1..=shape.chunk_bytes()).contains(&size);
@@ -363,8 +512,12 @@ pub fn plan(rng: &mut Rng, base: &Base, chunk: u64, size: Option<u64>) -> Vec<u8
         }
         None => discard_plan(base, for_chunk),
     };
-    for _ in 0..rng.pick(&[0, 0, 1, 1, 1, 2, 3]) {
-        mutate(rng, base, chunk, &mut steps);
+    if for_size.is_some() && rng.chance(15) {
+        misplace(rng, base, chunk, &mut steps);
+    } else {
+        for _ in 0..rng.pick(&[0, 0, 1, 1, 1, 2, 3]) {
+            mutate(rng, base, chunk, &mut steps);
+        }
     }
     match rng.below(25) {
         0 => steps.clear(),

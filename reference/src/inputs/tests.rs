@@ -95,9 +95,10 @@ fn damaged_tables_keep_their_trailer_and_are_seldom_sound() {
 }
 
 #[test]
-fn assembled_plans_on_free_units_pass() {
+fn assembled_plans_on_the_lowest_units_pass() {
     let mut rng = Rng::new(5);
     let mut passed = 0;
+    let mut planners = 0;
     for _ in 0..300 {
         let base = sound(&mut rng);
         let chunk = rng.below(base.shape.c);
@@ -107,11 +108,56 @@ fn assembled_plans_on_free_units_pass() {
         let plan = encode(&write_plan(&mut rng, &base, edition, chunk, size));
         let room = free_units(&base.shape, &base.image).len() as u64 >= k;
         let checked = model::check_write(&base.image, chunk, size, &plan);
-        assert!(checked.is_ok() || !room);
+        assert_eq!(checked.is_ok(), room);
         passed += usize::from(checked.is_ok());
         assert_eq!(encode(&decode(&plan)), plan);
+        let mut out = [0; LONGEST_PLAN];
+        let steps = model::plan_write(&base.image, chunk, size, &mut out);
+        let planned = steps.is_ok_and(|steps| plan == out[..16 * steps as usize]);
+        planners += usize::from(planned);
     }
     assert!(passed > 100);
+    assert!((20..passed - 50).contains(&planners), "{planners}");
+}
+
+/// Units that are free but not the lowest, and the lowest where others count as
+/// free: nothing but rule 2 is broken by either.
+#[test]
+fn plans_on_other_units_break_rule_2() {
+    let mut rng = Rng::new(10);
+    let mut seen = [0; 2];
+    for _ in 0..3000 {
+        let base = sound(&mut rng);
+        let Base { shape, image } = &base;
+        let chunk = rng.below(shape.c);
+        let k = rng.between(1, shape.p) as usize;
+        let size = size_of(&mut rng, k as u64);
+        let free = free_units(shape, image);
+        let taken: Vec<u64> = (0..shape.n).filter(|unit| !free.contains(unit)).collect();
+        let others = other_units(&mut rng, &free, k);
+        let counted = miscounted(&mut rng, &free, &taken, k);
+        for (at, units) in [others, counted].into_iter().enumerate() {
+            let Some(units) = units else { continue };
+            seen[at] += 1;
+            let mut different = units.clone();
+            different.sort_unstable();
+            different.dedup();
+            assert_eq!(different.len(), k);
+            assert_eq!(units.iter().all(|unit| free.contains(unit)), at == 0);
+            let map = free_maps(shape, image)[0];
+            let mut steps = assemble(shape, chunk, size, &units, map);
+            let check = |steps: &[Fields]| model::check_write(image, chunk, size, &encode(steps));
+            let refused = check(&steps).expect_err("other units");
+            assert_eq!([refused.number, refused.place], [11, 2]);
+            if let Some(lowest) = free.get(..k) {
+                put_on(shape, &mut steps, lowest);
+                assert_eq!(check(&steps), Ok(()));
+                put_on(shape, &mut steps, &units);
+                assert_eq!(steps, assemble(shape, chunk, size, &units, map));
+            }
+        }
+    }
+    assert!(seen.into_iter().all(|count| count > 500), "{seen:?}");
 }
 
 #[test]

@@ -32,7 +32,7 @@ fn steps<'a>(
 /// ask for; a step that breaks rule 1 ends it at once, as no lower rule is
 /// left. After the pass the rules are judged in order, so the lowest broken
 /// one is named.
-fn write_rules(volume: &mut Volume, chunk: usize, size: u64, plan: &[u8]) -> Answer<()> {
+fn write_rules(volume: &Volume, chunk: usize, size: u64, plan: &[u8]) -> Answer<()> {
     let geometry = volume.geometry;
     let k = units_of(&geometry, size)?;
 
@@ -52,11 +52,8 @@ fn write_rules(volume: &mut Volume, chunk: usize, size: u64, plan: &[u8]) -> Ans
         fence_last = false;
         match step? {
             Step::Data { unit, piece } => {
-                // Taking the unit out of the free set makes a second use of it
-                // count as not free.
-                let free = volume.free_units.remove(unit as usize);
                 let known = units[piece as usize].replace(unit);
-                pieces_good &= free && known.is_none() && (piece as usize) < k;
+                pieces_good &= known.is_none() && (piece as usize) < k;
                 order_good &= links == 0;
                 unfenced = true;
             }
@@ -82,9 +79,16 @@ fn write_rules(volume: &mut Volume, chunk: usize, size: u64, plan: &[u8]) -> Ans
         }
     }
 
-    // Rule 2: "pieces 0 to k-1 once each, no other, on different free units."
-    // A reserved unit is none (Decision 76).
-    if !pieces_good || units[..k].contains(&None) {
+    // Rule 2: "pieces 0 to k-1 once each, no other" (01); "piece j goes on the
+    // j-th lowest free unit, piece 0 on the lowest" (02, request 6), of the
+    // image lent: neither a reserved unit nor one of the chunk's own is free
+    // (Decision 82). With fewer than k of them the two are not of one length:
+    // "no plan keeps rule 2" (Decision 83).
+    let lowest = volume.free_units.iter().take(k);
+    let on_lowest = lowest
+        .map(|unit| Some(unit as u32))
+        .eq(units[..k].iter().copied());
+    if !pieces_good || !on_lowest {
         return Err(broken(2));
     }
     // Rule 3: "all MAP steps on one free map, each word 0 to P-1 once; word j
@@ -172,7 +176,7 @@ pub(crate) fn judge(
     plan: &[u8],
     n: u64,
 ) -> Answer<Geometry> {
-    let mut volume = Volume::open(image)?;
+    let volume = Volume::open(image)?;
     let chunk = volume.chunk(chunk)?;
     // "A plan's whole steps are its length / 16 rounded down, not capped at
     // 64." (Decision 11)
@@ -180,7 +184,7 @@ pub(crate) fn judge(
         return Err(Refusal::plain(RANGE));
     }
     match size {
-        Some(size) => write_rules(&mut volume, chunk, size, plan)?,
+        Some(size) => write_rules(&volume, chunk, size, plan)?,
         None => discard_rules(&volume, chunk, plan)?,
     }
     Ok(volume.geometry)

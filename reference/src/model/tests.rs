@@ -4,6 +4,7 @@
 use super::*;
 
 mod edition2;
+mod lowest;
 mod repair;
 mod reserved;
 
@@ -994,15 +995,16 @@ fn rules_2_to_5_of_a_write() {
     broken(5, &|s| s.swap(0, 7));
     broken(5, &|s| s.swap(0, 8));
     broken(5, &|s| s.swap(5, 6));
-    // The order before the fence is free, and other free units and maps do.
+    // The order before the fence is free, and another free map does.
     let mut steps = third_plan();
     steps[..6].reverse();
     assert_eq!(check_write(&image, 0, 5120, &plan(&steps)), Ok(()));
     let mut steps = third_plan();
-    (steps[0][1], steps[2][3]) = (19, 19);
     steps[2..6].iter_mut().for_each(|step| step[1] = 4);
     steps[7][3] = 4;
     assert_eq!(check_write(&image, 0, 5120, &plan(&steps)), Ok(()));
+    // Other free units do not (02, request 6).
+    broken(2, &|s| (s[0][1], s[2][3]) = (19, 19));
     // A lower rule wins over a higher one.
     broken(2, &|s| {
         s[0][1] = 0;

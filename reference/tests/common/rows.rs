@@ -630,15 +630,18 @@ fn write_rules(tables: &Tables, chunk: u64, size: u64, steps: &[[u32; 4]], verdi
     let fences = of_kind(steps, 4);
     let k = size.div_ceil(UNIT) as u32;
 
-    // 2: "pieces 0 to k-1 once each, no other, on different free units."
+    // 2: "pieces 0 to k-1 once each, no other" (01); "piece j goes on the j-th
+    // lowest free unit, piece 0 on the lowest" (02, request 6): a free one, with
+    // just j free ones below it.
     let pieces = sorted(data.iter().map(|(_, step)| step[2]));
-    let units = sorted(data.iter().map(|(_, step)| step[1]));
     let free = tables.free_units();
-    let all_free = units
-        .iter()
-        .all(|&unit| free.get(unit as usize).copied().unwrap_or(false));
-    let different = units.windows(2).all(|pair| pair[0] != pair[1]);
-    verdict.rules[2] = !pieces.into_iter().eq(0..k) || !all_free || !different;
+    let on_its_unit = |step: &[u32; 4]| {
+        let (below, from) = free.split_at(free.len().min(step[1] as usize));
+        let rank = below.iter().filter(|&&free| free).count();
+        from.first() == Some(&true) && rank == step[2] as usize
+    };
+    let all_on_theirs = data.iter().all(|(_, step)| on_its_unit(step));
+    verdict.rules[2] = !pieces.into_iter().eq(0..k) || !all_on_theirs;
 
     // 3: "all MAP steps on one free map, each word 0 to P-1 once; word j is
     // piece j's unit for j below k, else X." (01) "word 0 holds [..] the

@@ -251,7 +251,7 @@ fn a_named_map_with_a_reserved_unit() {
 /// "The five rules stay as they are, rule 1 with its 'units below N'. A DATA
 /// step on a reserved unit breaks rule 2 [..] A MAP word with a reserved unit
 /// breaks rule 3, or rule 1 or 2 where the plan breaks one of them" (Decision
-/// 76).
+/// 76). A reserved unit is not among the lowest that are free (Decision 82).
 #[test]
 fn plans_on_reserved_units() {
     let check = |steps: &[[u32; 4]]| check_write(&before_third3(), 0, 5120, &plan(steps));
@@ -281,10 +281,8 @@ fn plans_on_reserved_units() {
         broken(1, &|s| (s[0][1], s[4][3]) = (20, unit));
         broken(1, &|s| (s[0][1], s[4][3]) = (unit, 20));
     }
-    // Unit 8 passes as well as 6, the lowest that is free.
-    let mut steps = third_plan3();
-    (steps[0][1], steps[3][3]) = (8, 8);
-    assert_eq!(check(&steps), Ok(()));
+    // Unit 8 is free, and 6 the lowest that is (02, request 6).
+    broken(2, &|s| (s[0][1], s[3][3]) = (8, 8));
     let image = reserving(3);
     let first = planned(&image, 2, 6144);
     assert_eq!(first[..16], plan(&[[1, 3, 0, 0]]));
