@@ -1,7 +1,8 @@
 //! Forms of images, requests and plans that an entry point must have met,
 //! besides the rows and rules: those in which the two editions could be taken
-//! for each other, sizes that do not fit their units (02, request 4), and
-//! reserved units (02, request 5).
+//! for each other, sizes that do not fit their units (02, request 4), reserved
+//! units (02, request 5), and plans on other units than the lowest (02,
+//! request 6).
 
 use std::collections::BTreeSet;
 
@@ -12,11 +13,12 @@ use super::cases::{Call, Case, Entry};
 use super::repairs;
 use super::rows::Verdict;
 
-pub const COUNT: usize = 40;
+pub const COUNT: usize = 53;
 
 /// Forms of an image, then forms of a write's plan; the same with reserved
 /// units, requests between them; forms of a format; two more of an image with
-/// reserved units.
+/// reserved units; forms of a write's plan by its units, those that pass and
+/// those with nothing wrong but rule 2.
 pub const NAMES: [&str; COUNT] = [
     "both tags, read as edition 1 and answered",
     "both tags, refused with 3",
@@ -58,11 +60,25 @@ pub const NAMES: [&str; COUNT] = [
     "format, nothing wrong but N below P, R above 0",
     "R next to a whole word of the free set, answered",
     "unit 0 in a named map, and reserved",
+    "accepted on another map than the lowest",
+    "accepted with DATA steps in another order",
+    "accepted with a FENCE between DATA and MAP steps",
+    "accepted on the lowest units, held ones between",
+    "accepted, own old units lower than the last unit",
+    "other free units and nothing else wrong",
+    "rule 2, each unit one place too high",
+    "rule 2, two of the lowest units swapped",
+    "rule 2, one unit a higher free one",
+    "rule 2, own old units counted among the lowest",
+    "rule 2, others' units counted among the lowest",
+    "rule 2, reserved units counted among the lowest",
+    "rule 2 for want of free units",
 ];
 
 const IMAGES: usize = 11;
 const RESERVED: usize = 19;
 const FORMATS: usize = 35;
+const LOWEST: usize = 40;
 
 /// Whether an entry point of an edition has to meet a form; if not, it must not
 /// meet it either. Edition 1 has no sizes and no reserved units; a repair does
@@ -86,6 +102,9 @@ pub fn possible(entry: Entry, edition: usize, form: usize) -> bool {
         (2, 30) => matches!(entry, Entry::AlarmCount | Entry::AlarmFraction),
         (2, 31) => entry == Entry::AlarmFraction,
         (2, 32..=34) => checks,
+        // "in both editions" (Decision 82).
+        (2, 51) => checks,
+        (1 | 2, LOWEST..=50 | 52) => checks,
         _ => false,
     }
 }
@@ -141,10 +160,14 @@ pub fn of(case: &Case, answer: &[u64; 9], verdict: &Verdict) -> Vec<usize> {
         }
     }
     if number == 11 || number == 0 {
-        if let Call::CheckWrite { size, .. } | Call::CarryWrite { size, .. } = case.call {
+        if let Call::CheckWrite { chunk, size } | Call::CarryWrite { chunk, size, .. } = case.call {
             let shape = repairs::shape(image);
             let given = [number, answer[1]];
             forms.extend(plan_forms(&shape, size, &case.plan, given));
+            // Nothing is wrong, or nothing but rule 2.
+            if number == 0 || verdict.rules() == [2] {
+                forms.extend(lowest_forms(&shape, image, chunk, size, &case.plan));
+            }
             if shape.r > 0 {
                 forms.extend(reserved_plan_forms(&shape, image, size, &case.plan, given));
             }
@@ -300,6 +323,77 @@ fn reserved_plan_forms(
     if rule < 3 && in_map && !in_data {
         forms.push(34);
     }
+    forms
+}
+
+/// The units of a write's plan that passes, or has nothing wrong but rule 2: how
+/// they lie to the lowest that are free, and what else such a plan may choose.
+fn lowest_forms(shape: &Shape, image: &[u8], chunk: u64, size: u64, plan: &[u8]) -> Vec<usize> {
+    let steps = inputs::decode(plan);
+    let mut data: Vec<[u32; 4]> = steps.iter().copied().filter(|step| step[0] == 1).collect();
+    let in_order = data.is_sorted_by_key(|step| step[2]);
+    data.sort_unstable_by_key(|step| step[2]);
+    let k = size.div_ceil(4096) as usize;
+    if !data.iter().map(|step| step[2]).eq(0..k as u32) {
+        return Vec::new();
+    }
+    let units: Vec<u64> = data.iter().map(|step| u64::from(step[1])).collect();
+    let free = inputs::free_units(shape, image);
+    let held_by = |chunk: u64| match inputs::entry(image, chunk) {
+        inputs::X => Vec::new(),
+        map => inputs::units_in(shape, image, map),
+    };
+    let own = held_by(chunk);
+    let mut forms = Vec::new();
+    let mut put = |form: usize, holds: bool| {
+        if holds {
+            forms.push(LOWEST + form);
+        }
+    };
+    let Some(lowest) = free.get(..k) else {
+        put(12, true);
+        return forms;
+    };
+    if units == lowest {
+        let map = steps.iter().find(|step| step[0] == 2).map(|step| step[1]);
+        let lowest_map = inputs::free_maps(shape, image)[0];
+        put(0, map.is_some_and(|map| u64::from(map) != lowest_map));
+        put(1, !in_order);
+        let stores = |step: &[u32; 4]| step[0] < 3;
+        let last = steps.iter().rposition(stores).expect("a write has some");
+        let first = steps.iter().position(stores).expect("the same");
+        put(2, steps[first..last].contains(&inputs::FENCE));
+        put(3, lowest.windows(2).any(|pair| pair[0] + 1 < pair[1]));
+        put(4, own.iter().any(|&unit| unit < lowest[k - 1]));
+        return forms;
+    }
+    let different: BTreeSet<u64> = units.iter().copied().collect();
+    let all_free = units.iter().all(|unit| free.contains(unit));
+    let apart: Vec<usize> = (0..k).filter(|&at| units[at] != lowest[at]).collect();
+    put(5, all_free && different.len() == k);
+    put(6, free.get(1..=k) == Some(&units[..]));
+    put(
+        7,
+        matches!(apart[..], [a, b] if [units[a], units[b]] == [lowest[b], lowest[a]]),
+    );
+    put(
+        8,
+        matches!(apart[..], [at] if all_free && units[at] > lowest[k - 1]),
+    );
+    // The lowest, if some of these were free.
+    let counted = |taken: &[u64]| {
+        let used = units.iter().filter(|unit| taken.contains(unit));
+        let mut all: Vec<u64> = free.iter().chain(used).copied().collect();
+        let missing = all.len() == free.len();
+        all.sort_unstable();
+        !missing && all[..k] == units
+    };
+    put(9, counted(&own));
+    let others = (0..shape.c).filter(|&other| other != chunk);
+    let others: Vec<u64> = others.flat_map(held_by).collect();
+    put(10, counted(&others));
+    let reserved: Vec<u64> = (0..shape.r).collect();
+    put(11, counted(&reserved));
     forms
 }
 
