@@ -57,6 +57,11 @@ fn compare(name: &str, at: u64, case: &Case, counts: &mut Counts) -> (Outcome, V
             &model.answer[..3]
         );
     }
+    for (name, answer) in [("model", &model.answer), ("library", &library.answer)] {
+        if let Some(due) = case.due.filter(|due| due != &answer[..2]) {
+            text += &format!("  the {name} gives {:?}, {due:?} is due\n", &answer[..2]);
+        }
+    }
     let answered = [model.answer[0], library.answer[0]] == [0, 0];
     if answered && matches!(case.call, Call::Repair) {
         text += &repairs::flaws(at, case, &library, &verdict.faults.chunks());

@@ -157,6 +157,9 @@ pub struct Case {
     pub plan: Vec<u8>,
     /// How far the lent slices stand off an aligned address.
     pub skew: usize,
+    /// Number and place, where whoever made the case knows them by how it was
+    /// made.
+    pub due: Option<[u64; 2]>,
 }
 
 /// Everything that a call may answer or change.

@@ -133,6 +133,7 @@ pub fn case(rng: &mut Rng, entry: Entry, pool: &[Base]) -> Case {
         out,
         plan,
         skew: rng.index(16),
+        due: None,
     }
 }
 
@@ -205,5 +206,6 @@ fn format(rng: &mut Rng, edition: Edition) -> Case {
         out: Vec::new(),
         plan: Vec::new(),
         skew: rng.index(16),
+        due: None,
     }
 }

@@ -1,7 +1,8 @@
 //! Small scopes gone through completely: every case of a kind on the worked
 //! example of 01 in both editions, in edition 2 with and without reserved units,
 //! on small volumes or, for what is free and what is repaired, on the largest
-//! one, without chance.
+//! one, without chance. Where a sweep knows the answer by how it makes its cases,
+//! it says so, and model and library are held to that as well.
 
 use sumbilak_reference::inputs::{self, Edition, Fields, Shape, FENCE, TWO_32, X, X32};
 use sumbilak_reference::model::{self, UNIT};
@@ -20,7 +21,7 @@ const EXAMPLES: [Shape; 3] = [ONE, TWO, THREE_RESERVED];
 pub type Sweep = fn(&mut dyn FnMut(Case));
 
 /// Every sweep, by name.
-pub const ALL: [(&str, Sweep); 37] = [
+pub const ALL: [(&str, Sweep); 40] = [
     ("format and load, around every limit", limits),
     ("load, every value of every byte", load_bytes),
     ("load, two words of the tables", load_words),
@@ -67,6 +68,12 @@ pub const ALL: [(&str, Sweep); 37] = [
     ("plan_write, room around (C+1)·P besides R", rooms),
     ("alarms, every level under every R", alarms),
     ("repair, every word of two chunks under R", repair_reserved),
+    ("check_write, every unit for every piece", every_assignment),
+    ("check_write, every order and every map", every_order),
+    (
+        "check_write, lowest units of the largest volume",
+        lowest_checks,
+    ),
 ];
 
 fn case(call: Call, image: Vec<u8>) -> Case {
@@ -76,6 +83,7 @@ fn case(call: Call, image: Vec<u8>) -> Case {
         out: Vec::new(),
         plan: Vec::new(),
         skew: 0,
+        due: None,
     }
 }
 
@@ -1089,7 +1097,9 @@ fn plans_on(shape: Shape, numbers: &[u32], give: &mut dyn FnMut(Case)) {
     let mut image = inputs::fresh(&shape);
     inputs::put_entry(&mut image, 0, 1);
     inputs::put_units(&shape, &mut image, 1, &[n - 2]);
-    let good = inputs::assemble(&shape, 1, 8192, &[n - 1, n - 3], 0);
+    let mut free = shape.units().filter(|&unit| unit != n - 2);
+    let lowest = [free.next(), free.next()].map(|unit| unit.expect("P units besides"));
+    let good = inputs::assemble(&shape, 1, 8192, &lowest, 0);
     let mut check = |steps: &[Fields]| {
         let call = Call::CheckWrite {
             chunk: 1,
@@ -1180,4 +1190,156 @@ fn repair_reserved(give: &mut dyn FnMut(Case)) {
     let shape = Shape::one(2, 2, 3, 4).reserving(2);
     let sizes = [0, 4096, 8192, X];
     every_table(&shape, &[0, 1, 2, 3, 4, X], &sizes, give);
+}
+
+/// A write's plan, and what the checker has to answer: number and place.
+fn check(image: &[u8], chunk: u64, size: u64, steps: &[Fields], due: [u64; 2]) -> Case {
+    Case {
+        plan: inputs::encode(steps),
+        due: Some(due),
+        ..case(Call::CheckWrite { chunk, size }, image.to_vec())
+    }
+}
+
+const ACCEPTED: [u64; 2] = [0, 0];
+const RULE_2: [u64; 2] = [11, 2];
+const RULE_3: [u64; 2] = [11, 3];
+
+/// Every unit for every piece of a write, free or not, one of them for two
+/// pieces too, in every volume of six units in which each one is free, the
+/// chunk's own or another chunk's, as far as the chunks can hold them. The lowest
+/// free ones are accepted, and no others; where they are too few, none. The map
+/// is any free one, and the DATA steps are turned by some places.
+fn every_assignment(give: &mut dyn FnMut(Case)) {
+    let one = Shape::one(3, 3, 4, 6);
+    let two = one.in_edition(Two);
+    for shape in [
+        one,
+        two,
+        two.reserving(1),
+        two.reserving(2),
+        two.reserving(3),
+    ] {
+        // The digits of a number to base 3 say whose the units are.
+        for number in 0..3u64.pow((shape.n - shape.r) as u32) {
+            let owner = |unit: &u64| number / 3u64.pow((unit - shape.r) as u32) % 3;
+            let whose = |digit: u64| -> Vec<u64> {
+                shape.units().filter(|unit| owner(unit) == digit).collect()
+            };
+            let [free, own, others] = [0, 1, 2].map(whose);
+            if own.len() as u64 <= shape.p {
+                assignments(&shape, &free, &own, &others, give);
+            }
+        }
+    }
+}
+
+/// The same of one such volume. Chunk 1 is written.
+fn assignments(
+    shape: &Shape,
+    free: &[u64],
+    own: &[u64],
+    others: &[u64],
+    give: &mut dyn FnMut(Case),
+) {
+    let mut image = inputs::fresh(shape);
+    // Three to each of the two others, the last ones first.
+    let held = others.rchunks(shape.p as usize).zip([(2, 3), (0, 0)]);
+    let all = held.chain([(own, (1, 2))]);
+    for (units, (chunk, map)) in all.filter(|(units, _)| !units.is_empty()) {
+        inputs::put_entry(&mut image, chunk, map);
+        inputs::put_units(shape, &mut image, map, units);
+    }
+    let maps = inputs::free_maps(shape, &image);
+    for k in 1..=shape.p as usize {
+        for number in 0..shape.n.pow(k as u32) {
+            let unit = |piece: usize| number / shape.n.pow(piece as u32) % shape.n;
+            let units: Vec<u64> = (0..k).map(unit).collect();
+            let is_lowest = free.get(..k) == Some(&units);
+            let at = number as usize;
+            let size = UNIT * k as u64;
+            let mut steps = inputs::assemble(shape, 1, size, &units, maps[at % maps.len()]);
+            steps[..k].rotate_left(at % k);
+            let due = if is_lowest { ACCEPTED } else { RULE_2 };
+            give(check(&image, 1, size, &steps, due));
+        }
+    }
+}
+
+/// The third write on its lowest units: DATA and MAP steps in every order, by
+/// every map, which has to be a free one; then in the planner's order with one
+/// or two more fences at every place. The units below the third one are held, or
+/// the first of them is free.
+fn every_order(give: &mut dyn FnMut(Case)) {
+    for shape in EXAMPLES {
+        let mut holed = example(shape);
+        inputs::put_units(&shape, &mut holed, 0, &[shape.r + 1, shape.r + 4]);
+        for (image, units) in [(example(shape), [3, 4]), (holed, [0, 3])] {
+            let units = units.map(|unit| shape.r + unit);
+            for map in 0..shape.m {
+                let due = if map < 2 { RULE_3 } else { ACCEPTED };
+                let steps = inputs::assemble(&shape, 0, 5120, &units, map);
+                let (stores, end) = steps.split_at(steps.len() - 3);
+                let mut checked = |steps: &[Fields]| give(check(&image, 0, 5120, steps, due));
+                for mut order in inputs::orders(stores) {
+                    order.extend(end);
+                    checked(&order);
+                }
+                for first in 0..=steps.len() {
+                    for second in 0..=steps.len() + 1 {
+                        let mut fenced = steps.clone();
+                        fenced.insert(first, FENCE);
+                        fenced.insert(second, FENCE);
+                        checked(&fenced);
+                    }
+                }
+            }
+        }
+    }
+}
+
+/// The lowest free units at every edge of the free set's words, side by side or
+/// apart. A write of 16 units on them passes; it does not with each of them one
+/// place too high, with one of them exchanged for the next free one, for the
+/// unit below, which is held or reserved, or for another one of the sixteen.
+fn lowest_checks(give: &mut dyn FnMut(Case)) {
+    let mut all = |shape: &Shape, first: u64, distance: u64| {
+        let free: Vec<u64> = (0..17).map(|at| first + at * distance).collect();
+        // What lies below and between is held.
+        let last = free[16];
+        let held = |unit: &u64| *unit < last && !free.contains(unit);
+        let units: Vec<u64> = shape.units().filter(held).collect();
+        let maps: Vec<u64> = (0..(units.len() as u64).div_ceil(16)).collect();
+        let image = inputs::holding(shape, &units, &maps);
+        let mut checked = |units: &[u64], due: [u64; 2]| {
+            let steps = inputs::assemble(shape, 0, 65_536, units, 287);
+            give(check(&image, 0, 65_536, &steps, due));
+        };
+        let lowest = &free[..16];
+        checked(lowest, ACCEPTED);
+        checked(&free[1..], RULE_2);
+        for at in [0, 1, 14, 15] {
+            let mut others = vec![free[16], lowest[15 - at]];
+            others.extend(free[0].checked_sub(1));
+            for other in others {
+                let mut units = lowest.to_vec();
+                units[at] = other;
+                checked(&units, RULE_2);
+                // The two the other way round.
+                units[15 - at] = lowest[at];
+                checked(&units, RULE_2);
+            }
+        }
+    };
+    for distance in [1, 63, 64, 65, 200] {
+        for word in [0, 1, 13] {
+            for place in [0, 1, 31, 47, 48, 49, 62, 63] {
+                let first = 64 * word + place;
+                all(&largest(4608), first, distance);
+                for r in [0, first / 2, first] {
+                    all(&largest(4608).reserving(r), first, distance);
+                }
+            }
+        }
+    }
 }
