@@ -58,7 +58,7 @@ use rules::{Library, Rules};
 use simulate::{Simulator, Violation};
 use sumbilak_reference::ffi::{self, LOAD_WORDS};
 use sumbilak_reference::inputs::{
-    self, encode, put_entry, put_units, put_word, Edition, Fields, Shape, FENCE, X32,
+    self, encode, orders, put_entry, put_units, put_word, Edition, Fields, Shape, FENCE, X32,
 };
 use sumbilak_reference::rng::{mix, Rng};
 use sumbilak_reference::settings::number;
@@ -225,12 +225,10 @@ fn random_event_lists() {
     assert_eq!(all.hands[Hand::Damaged(0).index()][0], 0, "damaged plans");
     let mutated = all.hands[Hand::Mutated.index()];
     assert!(mutated.iter().all(|&count| count > 0), "mutated plans");
-    for room in [true, false] {
-        let [accepted, refused, _] = all.hands[Hand::Reserved { room }.index()];
-        assert!(
-            accepted == 0 && refused > 100,
-            "plans on reserved units, room: {room}"
-        );
+    let elsewhere = [true, false].map(|room| [Hand::Reserved { room }, Hand::Held { room }]);
+    for hand in elsewhere.into_iter().flatten().chain([Hand::Scattered]) {
+        let [accepted, refused, _] = all.hands[hand.index()];
+        assert!(accepted == 0 && refused > 100, "{hand:?}");
     }
     assert!(all.cut_linked > 100 && all.cut_partial > 100);
 }
@@ -258,14 +256,24 @@ const fn lists_to(length: usize, shape: Shape) -> Scope {
     }
 }
 
+/// A volume from every layout on, until nothing new is reached.
+const fn from_layouts(shape: Shape, plans: Plans) -> Scope {
+    Scope {
+        shape,
+        start: Start::EveryLayout,
+        plans,
+        depth: None,
+    }
+}
+
 /// The volumes that are explored, and how far.
-const SCOPES: [Scope; 40] = [
-    lists_to(3, shape(2, 1, 2, 2)),
-    lists_to(3, shape(2, 1, 2, 3)),
-    lists_to(3, shape(2, 1, 2, 4)),
-    lists_to(2, shape(2, 2, 3, 4)),
+const SCOPES: [Scope; 42] = [
+    lists_to(4, shape(2, 1, 2, 2)),
+    lists_to(4, shape(2, 1, 2, 3)),
+    lists_to(4, shape(2, 1, 2, 4)),
+    lists_to(3, shape(2, 2, 3, 4)),
     lists_to(2, shape(2, 2, 3, 6)),
-    lists_to(2, shape(3, 1, 2, 4)),
+    lists_to(3, shape(3, 1, 2, 4)),
     lists_to(1, shape(4, 4, 5, 20)),
     Scope {
         shape: VOLUME_64K,
@@ -285,36 +293,38 @@ const SCOPES: [Scope; 40] = [
         plans: Plans::Edits,
         depth: Some(1),
     },
-    lists_to(3, two(2, 1, 2, 3).reserving(1)),
-    lists_to(2, two(2, 2, 3, 6).reserving(2)),
+    lists_to(4, two(2, 1, 2, 3).reserving(1)),
+    lists_to(3, two(2, 2, 3, 6).reserving(2)),
     closure(two(2, 1, 2, 3).reserving(1), Plans::Edits),
     closure(two(2, 1, 2, 3).reserving(1), Plans::EveryChoice),
     closure(two(2, 1, 2, 4).reserving(2), Plans::Edits),
-    closure(two(2, 1, 2, 4).reserving(1), Plans::EveryChoice),
-    closure(two(2, 2, 3, 3).reserving(1), Plans::Two),
-    closure(two(2, 1, 3, 5).reserving(3), Plans::Two),
+    from_layouts(two(2, 1, 2, 4).reserving(1), Plans::EveryMap),
+    from_layouts(two(2, 2, 3, 3).reserving(1), Plans::Two),
+    closure(two(2, 1, 3, 5).reserving(3), Plans::EveryMap),
     lists_to(3, two(2, 1, 2, 2)),
-    lists_to(2, two(2, 2, 3, 4)),
+    lists_to(3, two(2, 2, 3, 4)),
     lists_to(2, two(3, 1, 2, 4)),
     closure(two(2, 1, 2, 2), Plans::Edits),
-    closure(two(2, 1, 2, 2), Plans::EveryChoice),
-    closure(two(2, 1, 2, 3), Plans::EveryChoice),
-    closure(two(2, 1, 3, 2), Plans::Two),
-    closure(two(2, 2, 3, 2), Plans::Two),
-    closure(two(2, 1, 2, 4), Plans::Two),
+    from_layouts(two(2, 1, 2, 2), Plans::EveryMap),
+    from_layouts(two(2, 1, 2, 3), Plans::EveryMap),
+    closure(two(2, 1, 3, 2), Plans::EveryMap),
+    from_layouts(two(2, 2, 3, 2), Plans::Two),
+    from_layouts(two(2, 1, 2, 4), Plans::EveryMap),
+    closure(two(3, 1, 2, 3), Plans::Two),
     closure(shape(2, 1, 2, 2), Plans::Edits),
     closure(shape(2, 1, 2, 3), Plans::Edits),
     closure(shape(2, 2, 3, 2), Plans::Edits),
-    closure(shape(2, 1, 2, 2), Plans::EveryChoice),
-    closure(shape(2, 1, 2, 3), Plans::EveryChoice),
-    closure(shape(2, 1, 2, 4), Plans::EveryChoice),
-    closure(shape(2, 1, 3, 2), Plans::EveryChoice),
-    closure(shape(3, 1, 2, 3), Plans::EveryChoice),
-    closure(shape(2, 2, 3, 2), Plans::EveryChoice),
-    closure(shape(2, 2, 3, 3), Plans::EveryChoice),
-    closure(shape(2, 1, 3, 4), Plans::Two),
-    closure(shape(3, 1, 2, 4), Plans::Two),
-    closure(shape(2, 2, 3, 4), Plans::Two),
+    from_layouts(shape(2, 1, 2, 2), Plans::EveryChoice),
+    from_layouts(shape(2, 1, 2, 3), Plans::EveryChoice),
+    from_layouts(shape(2, 1, 2, 4), Plans::EveryChoice),
+    from_layouts(shape(2, 1, 3, 2), Plans::EveryChoice),
+    from_layouts(shape(2, 2, 3, 2), Plans::EveryChoice),
+    from_layouts(shape(2, 2, 3, 3), Plans::EveryMap),
+    from_layouts(shape(2, 2, 3, 4), Plans::Two),
+    from_layouts(shape(2, 1, 3, 4), Plans::EveryMap),
+    from_layouts(shape(3, 1, 2, 3), Plans::EveryMap),
+    from_layouts(shape(3, 1, 2, 4), Plans::EveryMap),
+    closure(shape(3, 1, 3, 3), Plans::Two),
 ];
 
 /// Events after which a build with debug assertions leaves the rest out.
@@ -333,6 +343,9 @@ fn small_volumes_exhaustively() {
             "deepest",
             "plans accepted",
             "plans refused",
+            "on other free units",
+            "on held units",
+            "no room, on held units",
             "on reserved units",
             "no room, on reserved units",
             "cut points",
@@ -357,13 +370,13 @@ fn small_volumes_exhaustively() {
         };
         let mut cells = vec![scope.plans.name().to_string(), lists];
         cells.extend(tally.cells().map(|figure| figure.to_string()));
-        let started = if scope.start == Start::Format(&[]) {
-            ""
-        } else {
-            ", worked through"
+        let started = match scope.start {
+            Start::Format(&[]) => "",
+            Start::EveryLayout => ", every layout",
+            _ => ", worked through",
         };
         rows.push(row(&(name(&scope.shape) + started), &cells));
-        tried &= scope.tries_reserved(&tally);
+        tried &= scope.tries_elsewhere(&tally);
         all += &tally;
     }
     let mut cells = vec![String::new(), String::new()];
@@ -374,24 +387,7 @@ fn small_volumes_exhaustively() {
     if let Some(case) = failed {
         panic!("{case}");
     }
-    assert!(tried, "plans on reserved units");
-}
-
-/// Every order of the steps.
-fn orders(steps: &[Fields]) -> Vec<Vec<Fields>> {
-    if steps.is_empty() {
-        return vec![Vec::new()];
-    }
-    let mut all = Vec::new();
-    for at in 0..steps.len() {
-        let mut rest = steps.to_vec();
-        let first = rest.remove(at);
-        for mut order in orders(&rest) {
-            order.insert(0, first);
-            all.push(order);
-        }
-    }
-    all
+    assert!(tried, "plans on other units than the lowest free ones");
 }
 
 /// The legal plans of exactly so many steps on the smallest volume, for a
@@ -401,7 +397,8 @@ fn orders(steps: &[Fields]) -> Vec<Vec<Fields>> {
 ///
 /// A write takes six steps at least, in edition 2 seven, and with so many there
 /// is room for no more fences: DATA and the MAP steps in any order, FENCE, LINK,
-/// FENCE. A discard has fences before and after LINK, at least one after.
+/// FENCE; on the lowest free unit, by either map that is free. A discard has
+/// fences before and after LINK, at least one after.
 fn legal_plans(
     shape: &Shape,
     write: bool,
@@ -412,12 +409,8 @@ fn legal_plans(
     let mut legal = BTreeSet::new();
     let size_words = shape.size_words() as u32;
     if write && length == 6 + size_words as usize {
-        let first = shape.r as u32;
-        let free = if mapped { 1..2 } else { 0..2 };
-        for (unit, map) in free
-            .clone()
-            .flat_map(|unit| free.clone().map(move |map| (first + unit, map)))
-        {
+        let unit = shape.r as u32 + u32::from(mapped);
+        for map in u32::from(mapped)..2 {
             let mut stores = vec![[DATA, unit, 0, 0]];
             stores.extend((0..size_words).map(|word| [MAP, map, word, 4096]));
             stores.push([MAP, map, size_words, unit]);

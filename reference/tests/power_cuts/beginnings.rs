@@ -124,8 +124,10 @@ pub fn random_lists<B: Beginning>(
 pub fn every_image_of<B: Beginning>(scopes: &[Scope]) {
     let begun = Instant::now();
     let mut titles = B::titles();
-    titles.extend(["states", "deepest", "plans refused", "on reserved units"]);
-    titles.extend(["no room, on such", "subsets", "events", "violations"]);
+    titles.extend(["states", "deepest", "plans refused"]);
+    titles.extend(["on other free units", "on held units", "no room, on such"]);
+    titles.extend(["on reserved units", "no room, on such"]);
+    titles.extend(["subsets", "events", "violations"]);
     let mut rows = vec![row("volume", &titles)];
     let mut all = Tally::default();
     let mut failed = None;
@@ -136,6 +138,9 @@ pub fn every_image_of<B: Beginning>(scopes: &[Scope]) {
             tally.states,
             tally.deepest as u64,
             tally.refused,
+            tally.scattered,
+            tally.on_held,
+            tally.out_of_held,
             tally.on_reserved,
             tally.out_of_reserved,
             tally.subsets,
@@ -151,7 +156,7 @@ pub fn every_image_of<B: Beginning>(scopes: &[Scope]) {
         let (tally, case) = explore(&Library, scope, &any);
         failed = failed.or(case);
         tell(&name(&scope.shape), &tally);
-        tried &= scope.tries_reserved(&tally);
+        tried &= scope.tries_elsewhere(&tally);
         all += &tally;
     }
     tell("all", &all);
@@ -165,7 +170,7 @@ pub fn every_image_of<B: Beginning>(scopes: &[Scope]) {
     if let Some(case) = failed {
         panic!("{case}");
     }
-    assert!(tried, "plans on reserved units");
+    assert!(tried, "plans on other units than the lowest free ones");
 }
 
 /// Runs a wrong rule until each of these violations is seen, by random lists on

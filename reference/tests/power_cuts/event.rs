@@ -87,13 +87,19 @@ impl Leftovers {
 pub enum Hand {
     /// The library's planner.
     Planner,
-    /// A legal plan on other units, another map or in another order.
+    /// A legal plan by another map or in another order.
     Other,
     /// A legal plan with one defect that breaks this rule first.
     Damaged(u64),
     /// A plan that is legal but for reserved units that it writes on: where
     /// there is room, in the place of free ones, else for want of them.
     Reserved { room: bool },
+    /// A plan that is legal but for its units, free ones other than the lowest or
+    /// in another order: it passed until request 6.
+    Scattered,
+    /// The same with the chunk's own old units or another chunk's among them:
+    /// where there is room, in the place of free ones, else for want of them.
+    Held { room: bool },
     /// Changed at random: the checker's verdict is followed.
     Mutated,
     /// A plan of an earlier event once more.
@@ -103,7 +109,7 @@ pub enum Hand {
 }
 
 impl Hand {
-    pub const NAMES: [&'static str; 8] = [
+    pub const NAMES: [&'static str; 11] = [
         "the planner's own",
         "legal, another hand",
         "damaged",
@@ -112,6 +118,9 @@ impl Hand {
         "no room, bad request",
         "on reserved units",
         "no room, on reserved units",
+        "on other free units",
+        "on held units",
+        "no room, on held units",
     ];
 
     pub fn index(self) -> usize {
@@ -124,6 +133,9 @@ impl Hand {
             Hand::Stray => 5,
             Hand::Reserved { room: true } => 6,
             Hand::Reserved { room: false } => 7,
+            Hand::Scattered => 8,
+            Hand::Held { room: true } => 9,
+            Hand::Held { room: false } => 10,
         }
     }
 }

@@ -5,7 +5,8 @@ use std::collections::HashSet;
 use std::ops::AddAssign;
 
 use sumbilak_reference::inputs::{
-    assemble, decode, encode, Edition, Fields, Shape, FENCE as FENCE_STEP, X32,
+    assemble, decode, encode, fresh, orders, put_entry, put_map, Edition, Fields, Shape,
+    FENCE as FENCE_STEP, X32,
 };
 
 use crate::converted::{converted, Conversions};
@@ -15,20 +16,22 @@ use crate::lists::Case;
 use crate::plans::{of_the_other_edition, replace_map, replace_unit, Ground};
 use crate::repaired::{every_image, repaired, Repairs};
 use crate::rules::{carry_step, first, land, landed, Rules};
-use crate::simulate::{Simulator, Violation};
+use crate::simulate::{Passed, Simulator, Violation};
 use crate::volume::{contents, Held, Reading, Volume};
 
-/// Which plans are tried for a request, besides those on reserved units; see
-/// [`Explorer::on_reserved`].
+/// Which plans are tried for a request, besides those on other units than the
+/// lowest free ones; see [`Explorer::elsewhere`].
 #[derive(Clone, Copy, Debug, PartialEq, Eq)]
 pub enum Plans {
-    /// The planner's, and one on the highest free units and map instead of the
-    /// lowest, MAP before DATA, both falling.
+    /// The planner's, and one by the highest free map instead of the lowest, MAP
+    /// before DATA, both falling.
     Two,
-    /// The planner's order on every choice of free units and free map. Order
-    /// and further fences make no more states: at the last point before LINK's
-    /// fence every subset of all DATA and MAP steps comes up anyway, and a
-    /// fence only takes subsets away.
+    /// Two such by every free map. Other orders and further fences make no more
+    /// states: at the last point before LINK's fence every subset of all DATA
+    /// and MAP steps comes up anyway, and a fence only takes subsets away.
+    EveryMap,
+    /// All that the rules leave to a maker: by every free map, DATA and MAP in
+    /// every order; and in the planner's order, one more FENCE at every place.
     EveryChoice,
     /// As `Two`, and every plan that one edit makes of the planner's, and the
     /// other edition's, for as long as the checker accepts it.
@@ -39,6 +42,7 @@ impl Plans {
     pub fn name(self) -> &'static str {
         match self {
             Plans::Two => "two",
+            Plans::EveryMap => "every map",
             Plans::EveryChoice => "every choice",
             Plans::Edits => "two and edits",
         }
@@ -55,6 +59,10 @@ pub enum Start {
     /// In edition 2, at what a converter makes of each sound image of
     /// [`every_image`] of edition 1.
     EveryConversion,
+    /// At every way in which chunks can lie on units and maps, scattered by
+    /// plans that passed until request 6 among them: "What such plans left stays
+    /// good" (Decision 84). Dead maps are X.
+    EveryLayout,
 }
 
 pub struct Scope {
@@ -75,18 +83,26 @@ impl Scope {
 
     /// Whether units become too few in its lists. "Refusal 9 never occurs for one
     /// write when N-R is at least (C+1)·P" (02, request 5), nor where it is P for
-    /// each event of a list.
+    /// each event of a list from format on.
     pub fn wants_units(&self) -> bool {
         let Shape { p, c, n, r, .. } = self.shape;
-        let before = self.depth.map_or(c, |depth| c.min(depth as u64 - 1));
+        let before = match (self.start, self.depth) {
+            (Start::Format(_), Some(depth)) => c.min(depth as u64 - 1),
+            _ => c,
+        };
         n - r < (before + 1) * p
     }
 
-    /// Whether plans on reserved units were tried, if there are such, and for
+    /// Whether plans on other units than the lowest free ones were tried: other
+    /// free ones, and reserved ones, if there are such; held or reserved ones for
     /// want of others exactly where it comes to that.
-    pub fn tries_reserved(&self, tally: &Tally) -> bool {
-        let at_need = tally.out_of_reserved > 0;
-        self.shape.r == 0 || tally.on_reserved > 0 && at_need == self.wants_units()
+    pub fn tries_elsewhere(&self, tally: &Tally) -> bool {
+        let reserved = self.shape.r > 0;
+        let at_need = [tally.out_of_held > 0, tally.out_of_reserved > 0];
+        let wanted = self.wants_units();
+        tally.scattered > 0
+            && (tally.on_reserved > 0) == reserved
+            && at_need == [wanted, wanted && reserved]
     }
 }
 
@@ -103,6 +119,11 @@ pub struct Tally {
     /// where too few are free.
     pub on_reserved: u64,
     pub out_of_reserved: u64,
+    /// On free units, but not the lowest in their order.
+    pub scattered: u64,
+    /// On held units: in the place of free ones, and where too few are free.
+    pub on_held: u64,
+    pub out_of_held: u64,
     pub points: u64,
     pub subsets: u64,
     pub events: u64,
@@ -114,13 +135,16 @@ pub struct Tally {
 
 impl Tally {
     /// The figures as a table shows them.
-    pub fn cells(&self) -> [u64; 12] {
+    pub fn cells(&self) -> [u64; 15] {
         [
             self.states,
             self.expanded,
             self.deepest as u64,
             self.accepted,
             self.refused,
+            self.scattered,
+            self.on_held,
+            self.out_of_held,
             self.on_reserved,
             self.out_of_reserved,
             self.points,
@@ -141,6 +165,9 @@ impl AddAssign<&Tally> for Tally {
         self.refused += other.refused;
         self.on_reserved += other.on_reserved;
         self.out_of_reserved += other.out_of_reserved;
+        self.scattered += other.scattered;
+        self.on_held += other.on_held;
+        self.out_of_held += other.out_of_held;
         self.points += other.points;
         self.subsets += other.subsets;
         self.events += other.events;
@@ -214,12 +241,17 @@ struct Explorer<'a, R> {
     violations: Vec<Violation>,
 }
 
+/// The size that a write of so many units has here.
+fn size_of_units(k: u64) -> u64 {
+    4096 * k - 1
+}
+
 /// Every write by its number of units, and the discard, of every chunk. In
 /// edition 2 a size stays in its map, so that more sizes make many more states;
 /// [`edits`] and random lists have others.
 fn requests(shape: &Shape) -> impl Iterator<Item = Request> {
-    let sizes = (1..=shape.p).map(|k| Some(4096 * k - 1)).chain([None]);
-    let sizes: Vec<Option<u64>> = sizes.collect();
+    let sizes = (1..=shape.p).map(|k| Some(size_of_units(k)));
+    let sizes: Vec<Option<u64>> = sizes.chain([None]).collect();
     (0..shape.c).flat_map(move |chunk| {
         let request = move |size| Request { chunk, size };
         sizes.clone().into_iter().map(request)
@@ -241,6 +273,54 @@ fn arrangements(items: &[u64], k: usize) -> Vec<Vec<u64>> {
         }
     }
     all
+}
+
+/// Every image in which each chunk is unmapped or lies on 1 to P units, in every
+/// order, by any map. Dead maps are X; a size is that of the requests.
+fn every_layout(shape: &Shape, give: &mut dyn FnMut(&[u8])) {
+    let units: Vec<u64> = shape.units().collect();
+    let maps: Vec<u64> = (0..shape.m).collect();
+    layouts_from(shape, 0, &units, &maps, &fresh(shape), give);
+}
+
+/// The same of the chunks from this one on, with these units and maps left.
+fn layouts_from(
+    shape: &Shape,
+    chunk: u64,
+    units: &[u64],
+    maps: &[u64],
+    image: &[u8],
+    give: &mut dyn FnMut(&[u8]),
+) {
+    if chunk == shape.c {
+        return give(image);
+    }
+    layouts_from(shape, chunk + 1, units, maps, image, give);
+    for k in 1..=shape.p.min(units.len() as u64) {
+        for held in arrangements(units, k as usize) {
+            let left: Vec<u64> = units
+                .iter()
+                .copied()
+                .filter(|u| !held.contains(u))
+                .collect();
+            for &map in maps {
+                let others: Vec<u64> = maps.iter().copied().filter(|&m| m != map).collect();
+                let mut image = image.to_vec();
+                put_entry(&mut image, chunk, map);
+                put_map(shape, &mut image, map, size_of_units(k), &held);
+                layouts_from(shape, chunk + 1, &left, &others, &image, give);
+            }
+        }
+    }
+}
+
+/// The plan with one more FENCE, at every place.
+fn fenced(steps: &[Fields]) -> impl Iterator<Item = Vec<Fields>> + '_ {
+    (0..=steps.len()).map(|at| {
+        let mut fenced = steps.to_vec();
+        fenced.insert(at, FENCE_STEP);
+        fenced
+    })
 }
 
 /// Every plan that one edit makes: a step left out, moved, swapped, twice, a
@@ -292,11 +372,7 @@ fn edits(shape: &Shape, steps: &[Fields]) -> Vec<Vec<Fields>> {
             }
         }
     }
-    for to in 0..=steps.len() {
-        let mut fenced = steps.to_vec();
-        fenced.insert(to, FENCE_STEP);
-        put(fenced);
-    }
+    fenced(steps).for_each(&mut put);
     for step in steps.iter().filter(|step| step[0] == DATA) {
         for unit in 0..shape.n as u32 {
             let mut other = steps.to_vec();
@@ -312,35 +388,86 @@ fn edits(shape: &Shape, steps: &[Fields]) -> Vec<Vec<Fields>> {
     all
 }
 
+/// Up to so many units a write is tried on every arrangement of them; on larger
+/// volumes, on those of the reserved ones, of some more of the lowest free ones
+/// than it needs, and of the highest.
+const FEW_UNITS: u64 = 8;
+const SOME_MORE: usize = 4;
+
 impl<R: Rules> Explorer<'_, R> {
     /// Every plan of a write that is the planner's in its order and legal but
-    /// for one reserved unit or more: each arrangement of k units that are free
-    /// or reserved, with one of the latter, on the lowest free map; where every
-    /// choice is tried, on each free map. Rule 2 is broken whatever the map is.
-    fn on_reserved(&self, image: &[u8], request: Request) -> Vec<(Vec<u8>, Hand)> {
+    /// for its units, by the lowest free map; where every choice is tried, by
+    /// each free one. These are all arrangements of k units but the lowest free
+    /// ones in their order. Rule 2 is broken whatever the map is.
+    fn elsewhere(&self, image: &[u8], request: Request) -> Vec<(Vec<u8>, Hand)> {
         let shape = &self.simulator.shape;
-        let Some(size) = request.size.filter(|_| shape.r > 0) else {
+        let Some(size) = request.size else {
             return Vec::new();
         };
         let reading = Reading::of(shape, image);
+        let free: Vec<u64> = reading.free_units().collect();
         let k = request.k() as usize;
-        let room = reading.free_units().count() >= k;
-        let units: Vec<u64> = (0..shape.r).chain(reading.free_units()).collect();
+        let room = free.len() >= k;
+        let units: Vec<u64> = if shape.n <= FEW_UNITS {
+            (0..shape.n).collect()
+        } else {
+            let some = free.iter().take(k + SOME_MORE).chain(free.last());
+            let mut units: Vec<u64> = (0..shape.r).chain(some.copied()).collect();
+            units.dedup();
+            units
+        };
         let maps = match self.scope.plans {
             Plans::EveryChoice => shape.m as usize,
-            Plans::Two | Plans::Edits => 1,
+            _ => 1,
         };
         let maps: Vec<u64> = reading.free_maps().take(maps).collect();
         let mut plans = Vec::new();
         for units in arrangements(&units, k) {
-            if units.iter().any(|&unit| unit < shape.r) {
-                for &map in &maps {
-                    let steps = assemble(shape, request.chunk, size, &units, map);
-                    plans.push((encode(&steps), Hand::Reserved { room }));
-                }
+            let hand = if free.get(..k) == Some(&units) {
+                continue;
+            } else if units.iter().any(|&unit| unit < shape.r) {
+                Hand::Reserved { room }
+            } else if units.iter().any(|unit| !free.contains(unit)) {
+                Hand::Held { room }
+            } else {
+                Hand::Scattered
+            };
+            for &map in &maps {
+                let steps = assemble(shape, request.chunk, size, &units, map);
+                plans.push((encode(&steps), hand));
             }
         }
         plans
+    }
+
+    /// The legal plans for a request, besides the planner's. There must be room.
+    fn others(&self, image: &[u8], request: Request, planned: &[Fields]) -> Vec<Vec<Fields>> {
+        let shape = &self.simulator.shape;
+        let every_choice = self.scope.plans == Plans::EveryChoice;
+        let Some(size) = request.size else {
+            // An unmapped chunk's discard has no step at all.
+            let choices = every_choice && !planned.is_empty();
+            return fenced(planned).filter(|_| choices).collect();
+        };
+        let reading = Reading::of(shape, image);
+        let lowest: Vec<u64> = reading.free_units().take(request.k() as usize).collect();
+        let maps: Vec<u64> = reading.free_maps().collect();
+        let mut others = Vec::new();
+        for &map in &maps {
+            let steps = assemble(shape, request.chunk, size, &lowest, map);
+            let (stores, end) = steps.split_at(steps.len() - 3);
+            let falling: Vec<Fields> = stores.iter().rev().copied().collect();
+            let in_orders = match self.scope.plans {
+                Plans::Two | Plans::Edits if maps.last() != Some(&map) => Vec::new(),
+                Plans::Two | Plans::Edits => vec![falling],
+                Plans::EveryMap => vec![stores.to_vec(), falling],
+                Plans::EveryChoice => orders(stores),
+            };
+            let whole = in_orders.iter().map(|order| [order, end].concat());
+            others.extend(whole.filter(|steps| steps != planned));
+            others.extend(fenced(&steps).filter(|_| every_choice));
+        }
+        others
     }
 
     /// The plans for a request and who made them. The planner is held to 01 on
@@ -349,40 +476,20 @@ impl<R: Rules> Explorer<'_, R> {
         let shape = &self.simulator.shape;
         let image = &volume.image;
         let planned = self.simulator.plan(image, request, &mut self.violations);
-        let mut plans = self.on_reserved(image, request);
+        let mut plans = self.elsewhere(image, request);
         let Some(planned) = planned else {
             return plans;
         };
         let planned_steps = decode(&planned);
         plans.push((planned, Hand::Planner));
-        if let Some(size) = request.size {
-            let reading = Reading::of(shape, image);
-            let units: Vec<u64> = reading.free_units().collect();
-            let maps: Vec<u64> = reading.free_maps().collect();
-            let k = request.k() as usize;
-            let chunk = request.chunk;
-            if self.scope.plans == Plans::EveryChoice {
-                for units in arrangements(&units, k) {
-                    for &map in &maps {
-                        let steps = assemble(shape, chunk, size, &units, map);
-                        if steps != planned_steps {
-                            plans.push((encode(&steps), Hand::Other));
-                        }
-                    }
-                }
-            } else if units.len() >= k {
-                let highest: Vec<u64> = units.iter().rev().copied().take(k).collect();
-                let map = *maps.last().expect("more maps than chunks");
-                let mut steps = assemble(shape, chunk, size, &highest, map);
-                let fence = steps.len() - 3;
-                steps[..fence].reverse();
-                plans.push((encode(&steps), Hand::Other));
-            }
+        let reading = Reading::of(shape, image);
+        if reading.free_units().count() as u64 >= request.k() {
+            let others = self.others(image, request, &planned_steps);
+            plans.extend(others.iter().map(|steps| (encode(steps), Hand::Other)));
         }
         if self.scope.plans == Plans::Edits {
             let mut edited = edits(shape, &planned_steps);
             if request.size.is_some() {
-                let reading = Reading::of(shape, image);
                 let ground = Ground {
                     shape,
                     image,
@@ -414,6 +521,9 @@ impl<R: Rules> Explorer<'_, R> {
             match event.hand {
                 Hand::Reserved { room: true } => self.tally.on_reserved += 1,
                 Hand::Reserved { room: false } => self.tally.out_of_reserved += 1,
+                Hand::Scattered => self.tally.scattered += 1,
+                Hand::Held { room: true } => self.tally.on_held += 1,
+                Hand::Held { room: false } => self.tally.out_of_held += 1,
                 _ => {}
             }
             // "Where checking, or carrying out n steps, is refused, both
@@ -427,9 +537,9 @@ impl<R: Rules> Explorer<'_, R> {
             return !self.failed();
         }
         self.tally.accepted += 1;
-        let steps = decode(&event.plan);
-        simulator.verify_plan(&steps, &mut self.violations);
-        self.tally.carried += simulator.carry_each(image, event, &steps, &mut self.violations);
+        let passed = simulator.passed(image, event, &mut self.violations);
+        let steps = &passed.steps;
+        self.tally.carried += simulator.carry_each(image, event, steps, &mut self.violations);
         if self.failed() {
             return false;
         }
@@ -444,16 +554,16 @@ impl<R: Rules> Explorer<'_, R> {
                 carry_step(shape, &mut carried, &steps[n - 1]);
             }
             event.n = n as u64;
-            let fenced = rules.fenced(&steps, n);
+            let fenced = rules.fenced(steps, n);
             for subset in 0..1 << (n - fenced) {
                 self.tally.subsets += 1;
                 event.choice = subset << fenced;
-                let landed = landed(*rules, &steps, n, event.choice);
+                let landed = landed(*rules, steps, n, event.choice);
                 let all_landed = (landed == first(n)).then_some(&carried[..]);
                 let choices = if data & !landed == 0 { 1 } else { 2 };
                 for leftovers in [Leftovers::Unchanged, garbage].into_iter().take(choices) {
                     event.leftovers = leftovers;
-                    if !self.run_event(at, volume, event, &steps, landed, all_landed) {
+                    if !self.run_event(at, volume, event, &passed, landed, all_landed) {
                         return false;
                     }
                 }
@@ -468,7 +578,7 @@ impl<R: Rules> Explorer<'_, R> {
         at: usize,
         volume: &Volume,
         event: &Event,
-        steps: &[Fields],
+        passed: &Passed,
         landed: u64,
         all_landed: Option<&[u8]>,
     ) -> bool {
@@ -478,8 +588,8 @@ impl<R: Rules> Explorer<'_, R> {
         let next = &mut self.next;
         let violations = &mut self.violations;
         next.clone_from(volume);
-        land(simulator.rules, shape, next, event, steps, landed);
-        simulator.settle(volume, next, event, steps, landed, violations);
+        land(simulator.rules, shape, next, event, &passed.steps, landed);
+        simulator.settle(volume, next, event, passed, landed, violations);
         simulator.verify_pieces(next, violations);
         simulator.verify_reserved(next, violations);
         if all_landed.is_some_and(|carried| carried != next.image) {
@@ -577,6 +687,34 @@ impl<R: Rules> Explorer<'_, R> {
         failed.then(|| Case {
             shape: *shape,
             origin: "a conversion".to_string(),
+            start: self.next.clone(),
+            events: Vec::new(),
+            violations: self.violations.clone(),
+        })
+    }
+
+    /// The states in which chunks lie on units and maps in every way.
+    fn begin_layouts(&mut self) -> Option<Case> {
+        let simulator = self.simulator;
+        let shape = &simulator.shape;
+        let mut failed = false;
+        every_layout(shape, &mut |image| {
+            if failed {
+                return;
+            }
+            let mut tags = 1..;
+            let units = contents(shape, || tags.next().expect("as many as there are units"));
+            let mut volume = Volume::holding(shape, image.to_vec(), units);
+            simulator.verify(&volume.image, &mut self.violations);
+            simulator.verify_sizes(&volume, 0, &mut self.violations);
+            if self.scope.renames() {
+                rename(shape, &mut volume);
+            }
+            failed = !self.begin(volume);
+        });
+        failed.then(|| Case {
+            shape: *shape,
+            origin: "a layout".to_string(),
             start: self.next.clone(),
             events: Vec::new(),
             violations: self.violations.clone(),
@@ -688,7 +826,7 @@ pub fn explore<R: Rules>(
     let simulator = Simulator::new(rules, scope.shape);
     let writes = match scope.start {
         Start::Format(writes) => writes,
-        Start::EveryRepair | Start::EveryConversion => &[],
+        _ => &[],
     };
     let start = start(&simulator, scope, writes);
     let mut explorer = Explorer {
@@ -709,6 +847,7 @@ pub fn explore<R: Rules>(
         }
         Start::EveryRepair => explorer.begin_repaired(),
         Start::EveryConversion => explorer.begin_converted(),
+        Start::EveryLayout => explorer.begin_layouts(),
     };
     let case = case.or_else(|| explorer.explore());
     explorer.tally.violations = u64::from(case.is_some());

@@ -143,10 +143,22 @@ impl<R: Rules> Source<'_, R> {
             .then(|| plans::legal(rng, &ground, request))
             .flatten();
         let (Some(planned), Some(legal)) = (planned, legal) else {
-            if request.is_good(shape) && rng.chance(50) {
-                // No room, unless what is kept for the boot loader were taken.
-                if let Some(steps) = plans::out_of_reserved(rng, &ground, request) {
-                    return (encode(&steps), Hand::Reserved { room: false });
+            if request.is_good(shape) {
+                // No room, unless what is kept for the boot loader were taken,
+                // or what chunks hold.
+                let (steps, hand) = match rng.below(3) {
+                    0 => (
+                        plans::out_of_reserved(rng, &ground, request),
+                        Hand::Reserved { room: false },
+                    ),
+                    1 => (
+                        plans::out_of_held(rng, &ground, request),
+                        Hand::Held { room: false },
+                    ),
+                    _ => (None, Hand::Stray),
+                };
+                if let Some(steps) = steps {
+                    return (encode(&steps), hand);
                 }
             }
             // No room, or a bad request: a plan on any units.
@@ -162,6 +174,18 @@ impl<R: Rules> Source<'_, R> {
         if shape.r > 0 && request.size.is_some() && rng.chance(10) {
             let steps = plans::on_reserved(rng, &ground, &legal);
             return (encode(&steps), Hand::Reserved { room: true });
+        }
+        if request.size.is_some() && rng.chance(12) {
+            let (steps, hand) = match rng.chance(60) {
+                true => (plans::scattered(rng, &ground, &legal), Hand::Scattered),
+                false => (
+                    plans::on_held(rng, &ground, request, &legal),
+                    Hand::Held { room: true },
+                ),
+            };
+            if let Some(steps) = steps {
+                return (encode(&steps), hand);
+            }
         }
         match rng.below(100) {
             0..=29 => (planned, Hand::Planner),

@@ -2,7 +2,8 @@
 //! with one defect, and legal ones changed at random.
 
 use sumbilak_reference::inputs::{
-    assemble, encode, entry, size_of, Edition, Fields, Shape, FENCE as FENCE_STEP, X, X32,
+    assemble, encode, entry, miscounted, other_units, put_on, size_of, Edition, Fields, Shape,
+    FENCE as FENCE_STEP, X, X32,
 };
 use sumbilak_reference::rng::Rng;
 
@@ -23,14 +24,24 @@ impl Ground<'_> {
     fn is_mapped(&self, chunk: u64) -> bool {
         entry(self.image, chunk) != X
     }
+
+    fn free_units(&self) -> Vec<u64> {
+        self.reading.free_units().collect()
+    }
+
+    /// The units of a chunk.
+    fn units_of(&self, chunk: u64) -> Vec<u64> {
+        let held = Held::of(self.shape, self.image, chunk);
+        held.units().iter().map(|&unit| unit as u64).collect()
+    }
 }
 
 fn fences(rng: &mut Rng, least: usize, most: usize) -> Vec<Fields> {
     vec![FENCE_STEP; rng.between(least as u64, most.max(least) as u64) as usize]
 }
 
-/// A legal plan: any free units, any free map, DATA and MAP in any order, and
-/// fences wherever rule 5 leaves room for them. None if too few units are
+/// A legal plan: the lowest free units, any free map, DATA and MAP in any order,
+/// and fences wherever rule 5 leaves room for them. None if too few units are
 /// free.
 pub fn legal(rng: &mut Rng, ground: &Ground, request: Request) -> Option<Vec<Fields>> {
     let chunk = request.chunk as u32;
@@ -46,21 +57,18 @@ pub fn legal(rng: &mut Rng, ground: &Ground, request: Request) -> Option<Vec<Fie
     };
 
     let k = request.k() as usize;
-    let mut units: Vec<u64> = ground.reading.free_units().collect();
-    if units.len() < k {
-        return None;
-    }
-    rng.shuffle(&mut units);
-    units.truncate(k);
+    let free = ground.free_units();
+    let units = free.get(..k)?;
     let maps: Vec<u64> = ground.reading.free_maps().collect();
     let map = rng.pick(&maps) as u32;
 
     // DATA and MAP; what follows them comes below.
-    let mut steps = assemble(ground.shape, request.chunk, size, &units, u64::from(map));
+    let mut steps = assemble(ground.shape, request.chunk, size, units, u64::from(map));
     steps.truncate(steps.len() - 3);
-    match rng.below(4) {
+    match rng.below(5) {
         0 => {}
         1 => steps.reverse(),
+        2 => rng.shuffle(&mut steps[..k]),
         _ => rng.shuffle(&mut steps),
     }
     let spare = MOST_STEPS - steps.len() - 3;
@@ -81,14 +89,55 @@ pub fn legal(rng: &mut Rng, ground: &Ground, request: Request) -> Option<Vec<Fie
     Some(steps)
 }
 
+/// A legal write's plan on other free units, or on the lowest in another order,
+/// in DATA and in MAP alike: rule 2. None if there are no such.
+pub fn scattered(rng: &mut Rng, ground: &Ground, steps: &[Fields]) -> Option<Vec<Fields>> {
+    let mut steps = steps.to_vec();
+    let k = of_kind(&steps, DATA).len();
+    let units = other_units(rng, &ground.free_units(), k)?;
+    put_on(ground.shape, &mut steps, &units);
+    Some(steps)
+}
+
+/// A legal write's plan on the lowest units where the chunk's own old ones, or
+/// those of others too, count as free: rule 2. None if that makes no difference.
+pub fn on_held(
+    rng: &mut Rng,
+    ground: &Ground,
+    request: Request,
+    steps: &[Fields],
+) -> Option<Vec<Fields>> {
+    let mut steps = steps.to_vec();
+    let k = of_kind(&steps, DATA).len();
+    let own = ground.units_of(request.chunk);
+    let held = match rng.below(3) {
+        0 | 1 => own,
+        // As it is where a later chunk wins.
+        _ => (0..request.chunk)
+            .flat_map(|chunk| ground.units_of(chunk))
+            .collect(),
+    };
+    let units = miscounted(rng, &ground.free_units(), &held, k)?;
+    put_on(ground.shape, &mut steps, &units);
+    Some(steps)
+}
+
 /// A legal write's plan with one or more of its units exchanged for reserved
-/// ones, in DATA and in MAP alike, as far as there are such: rule 2.
+/// ones, in DATA and in MAP alike, as far as there are such, or on the lowest
+/// where reserved ones count as free: rule 2.
 pub fn on_reserved(rng: &mut Rng, ground: &Ground, steps: &[Fields]) -> Vec<Fields> {
     let shape = ground.shape;
     let mut steps = steps.to_vec();
     let mut reserved: Vec<u64> = (0..shape.r).collect();
-    rng.shuffle(&mut reserved);
     let mut data = of_kind(&steps, DATA);
+    if rng.chance(30) {
+        let units = miscounted(rng, &ground.free_units(), &reserved, data.len());
+        if let Some(units) = units {
+            put_on(shape, &mut steps, &units);
+            return steps;
+        }
+    }
+    rng.shuffle(&mut reserved);
     rng.shuffle(&mut data);
     data.truncate(rng.between(1, data.len() as u64) as usize);
     for (at, unit) in data.into_iter().zip(reserved) {
@@ -98,22 +147,47 @@ pub fn on_reserved(rng: &mut Rng, ground: &Ground, steps: &[Fields]) -> Vec<Fiel
     steps
 }
 
-/// A write's plan where too few units are free: all of those and reserved ones.
+/// A write's plan where too few units are free: all of those and some of these.
 /// None if enough are free, or if these together are too few.
-pub fn out_of_reserved(rng: &mut Rng, ground: &Ground, request: Request) -> Option<Vec<Fields>> {
+fn out_of(
+    rng: &mut Rng,
+    ground: &Ground,
+    request: Request,
+    others: Vec<u64>,
+) -> Option<Vec<Fields>> {
     let size = request.size?;
     let k = request.k() as usize;
-    let mut units: Vec<u64> = ground.reading.free_units().collect();
+    let mut units = ground.free_units();
     let free = units.len();
-    units.extend(0..ground.shape.r);
+    units.extend(others);
     if free >= k || units.len() < k {
         return None;
     }
-    units.truncate(k);
-    rng.shuffle(&mut units);
+    if rng.chance(50) {
+        // The lowest of all of them.
+        units.sort_unstable();
+        units.truncate(k);
+    } else {
+        units.truncate(k);
+        rng.shuffle(&mut units);
+    }
     let maps: Vec<u64> = ground.reading.free_maps().collect();
     let map = rng.pick(&maps);
     Some(assemble(ground.shape, request.chunk, size, &units, map))
+}
+
+/// The same with reserved units.
+pub fn out_of_reserved(rng: &mut Rng, ground: &Ground, request: Request) -> Option<Vec<Fields>> {
+    out_of(rng, ground, request, (0..ground.shape.r).collect())
+}
+
+/// The same with held ones, the chunk's own before those of others.
+pub fn out_of_held(rng: &mut Rng, ground: &Ground, request: Request) -> Option<Vec<Fields>> {
+    let mut held = ground.units_of(request.chunk);
+    if rng.chance(50) {
+        held.extend(ground.reading.units_of_others(request.chunk));
+    }
+    out_of(rng, ground, request, held)
 }
 
 /// A legal write's plan as the other edition has it: the words of its map with a
@@ -268,8 +342,7 @@ fn damage_write(
     Some(match rng.below(19) {
         // "Old units counted free for the write that replaces them." (01)
         0 => {
-            let own = Held::of(ground.shape, ground.image, chunk);
-            let unit = rng.pick_any(own.units())?;
+            let unit = rng.pick_any(&ground.units_of(chunk))?;
             replace_unit(shape, steps, some_unit, unit as u32);
             2
         }
@@ -522,11 +595,9 @@ fn change(rng: &mut Rng, ground: &Ground, request: Request, steps: &mut Vec<Fiel
             let Some(at) = rng.pick_any(&data) else {
                 return;
             };
-            let own = Held::of(ground.shape, ground.image, request.chunk);
-            let free: Vec<u64> = ground.reading.free_units().collect();
             let new = match rng.below(3) {
-                0 => rng.pick_any(own.units()).map(|unit| unit as u64),
-                1 => rng.pick_any(&free),
+                0 => rng.pick_any(&ground.units_of(request.chunk)),
+                1 => rng.pick_any(&ground.free_units()),
                 _ => None,
             };
             let new = new.unwrap_or_else(|| rng.below(n));

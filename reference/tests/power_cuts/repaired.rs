@@ -192,10 +192,10 @@ fn random_event_lists_after_a_repair() {
 const EVERY_IMAGE: [Scope; 6] = [
     from_every_image(shape(2, 1, 2, 2), Plans::EveryChoice),
     from_every_image(shape(2, 1, 2, 3), Plans::EveryChoice),
-    from_every_image(shape(2, 2, 3, 2), Plans::EveryChoice),
-    from_every_image(two(2, 1, 2, 2), Plans::EveryChoice),
+    from_every_image(shape(2, 2, 3, 2), Plans::EveryMap),
+    from_every_image(two(2, 1, 2, 2), Plans::EveryMap),
     from_every_image(two(2, 1, 2, 3), Plans::Two),
-    from_every_image(two(2, 1, 2, 3).reserving(1), Plans::EveryChoice),
+    from_every_image(two(2, 1, 2, 3).reserving(1), Plans::EveryMap),
 ];
 
 const fn from_every_image(shape: Shape, plans: Plans) -> Scope {

@@ -33,6 +33,16 @@ pub enum Violation {
     Overwritten { unit: u64, holds: u64 },
     /// A plan that passed, with a DATA step on a reserved unit.
     ReservedData { unit: u64 },
+    /// A plan that passed, with a DATA step on another unit than its piece's:
+    /// "piece j goes on the j-th lowest free unit" (02, request 6).
+    NotLowest { piece: u64, unit: u64 },
+    /// A chunk whose write landed, on other units than the lowest that were
+    /// free.
+    Scattered {
+        chunk: u64,
+        units: Vec<usize>,
+        lowest: Vec<usize>,
+    },
     /// "Load answers R as its value" (Decision 78), and here it is not.
     LoadValue { value: u64 },
     /// Load's free sets are not what no named map holds.
@@ -106,6 +116,8 @@ impl Violation {
             Violation::Trailer => "trailer changed",
             Violation::Overwritten { .. } => "reserved unit overwritten",
             Violation::ReservedData { .. } => "reserved unit planned",
+            Violation::NotLowest { .. } => "not the lowest unit planned",
+            Violation::Scattered { .. } => "a chunk not on the lowest units",
             Violation::LoadValue { .. } => "load's value",
             Violation::FreeSet { .. } => "free set",
             Violation::Ledger { .. } => "not what the ledger gives",
@@ -136,6 +148,8 @@ impl Violation {
                 | Violation::Planner { .. }
                 | Violation::Verdict { .. }
                 | Violation::ReservedData { .. }
+                | Violation::NotLowest { .. }
+                | Violation::Scattered { .. }
                 | Violation::Repair { .. }
                 | Violation::Convert { .. }
                 | Violation::Answer { .. }
@@ -188,6 +202,14 @@ fn words_of(loaded: &Loaded) -> [u64; LOAD_WORDS] {
     words[4..76].copy_from_slice(&loaded.units);
     words[76..].copy_from_slice(&maps);
     words
+}
+
+/// A plan that the checker accepted.
+pub struct Passed {
+    pub steps: Vec<Fields>,
+    /// The units that a write has to go on, piece by piece: the lowest that were
+    /// free, as many as it takes.
+    lowest: Vec<usize>,
 }
 
 /// The rules at work on volumes of one geometry.
@@ -443,13 +465,13 @@ impl<'a, R: Rules> Simulator<'a, R> {
                 link_landed: false,
             },
             None => {
-                let steps = decode(&event.plan);
-                self.verify_plan(&steps, violations);
-                figures.carried += self.carry_each(&before.image, event, &steps, violations);
+                let passed = self.passed(&before.image, event, violations);
+                let steps = &passed.steps;
+                figures.carried += self.carry_each(&before.image, event, steps, violations);
                 let n = event.n as usize;
-                let landed = landed(self.rules, &steps, n, event.choice);
-                land(self.rules, &self.shape, volume, event, &steps, landed);
-                self.settle(&before, volume, event, &steps, landed, violations)
+                let landed = landed(self.rules, steps, n, event.choice);
+                land(self.rules, &self.shape, volume, event, steps, landed);
+                self.settle(&before, volume, event, &passed, landed, violations)
             }
         };
         if outcome.landed == first(event.n as usize)
@@ -473,13 +495,17 @@ impl<'a, R: Rules> Simulator<'a, R> {
     }
 
     /// The planner's plans and other legal ones pass, damaged ones and those on
-    /// reserved units do not.
+    /// other units than the lowest free ones do not.
     pub fn expect(&self, event: &Event, answer: CAnswer, violations: &mut Vec<Violation>) {
         let (due, good) = match event.hand {
             Hand::Planner | Hand::Other => (Due::Pass, triple(answer) == [0; 3]),
             Hand::Damaged(rule) => (Due::Refuse { rule }, triple(answer) == [11, rule, 0]),
-            // "A DATA step on a reserved unit breaks rule 2" (Decision 76).
-            Hand::Reserved { .. } => (Due::Refuse { rule: 2 }, triple(answer) == [11, 2, 0]),
+            // "A DATA step on a reserved unit breaks rule 2" (Decision 76). "A
+            // plan on other free units, accepted until now, gives 11 with rule
+            // 2" (02, request 6), and too few of them give no 9 (Decision 83).
+            Hand::Reserved { .. } | Hand::Scattered | Hand::Held { .. } => {
+                (Due::Refuse { rule: 2 }, triple(answer) == [11, 2, 0])
+            }
             _ => return,
         };
         if !good {
@@ -494,10 +520,11 @@ impl<'a, R: Rules> Simulator<'a, R> {
         before: &Volume,
         volume: &mut Volume,
         event: &Event,
-        steps: &[Fields],
+        passed: &Passed,
         landed: u64,
         violations: &mut Vec<Violation>,
     ) -> Outcome {
+        let Passed { steps, lowest } = passed;
         let links = steps.iter().enumerate().filter(|(_, step)| step[0] == LINK);
         let link_landed = links.into_iter().any(|(at, _)| landed >> at & 1 == 1);
         let finished = event.n as usize == steps.len();
@@ -545,6 +572,14 @@ impl<'a, R: Rules> Simulator<'a, R> {
                 link_landed,
                 holds: now.pieces(&volume.units).collect(),
                 due,
+            });
+        }
+        // A write that landed is on the lowest units that were free, in order.
+        if link_landed && event.request.size.is_some() && now.units() != lowest {
+            violations.push(Violation::Scattered {
+                chunk,
+                units: now.units().to_vec(),
+                lowest: lowest.clone(),
             });
         }
         Outcome {
@@ -642,15 +677,24 @@ impl<'a, R: Rules> Simulator<'a, R> {
         }
     }
 
-    /// "no accepted plan has a DATA step there" (Decision 80): on a reserved
-    /// unit.
-    pub fn verify_plan(&self, steps: &[Fields], violations: &mut Vec<Violation>) {
+    /// What is asked of a plan that was accepted: "no accepted plan has a DATA
+    /// step there" (Decision 80), on a reserved unit, and each has its piece's
+    /// unit, of the lowest that are free.
+    pub fn passed(&self, image: &[u8], event: &Event, violations: &mut Vec<Violation>) -> Passed {
+        let steps = decode(&event.plan);
+        let reading = Reading::of(&self.shape, image);
+        let free = reading.free_units().map(|unit| unit as usize);
+        let lowest: Vec<usize> = free.take(event.request.k() as usize).collect();
         for step in steps.iter().filter(|step| step[0] == DATA) {
-            let unit = u64::from(step[1]);
+            let [unit, piece] = [step[1], step[2]].map(u64::from);
             if unit < self.shape.r {
                 violations.push(Violation::ReservedData { unit });
             }
+            if lowest.get(piece as usize) != Some(&(unit as usize)) {
+                violations.push(Violation::NotLowest { piece, unit });
+            }
         }
+        Passed { steps, lowest }
     }
 
     /// "a reserved unit holds at the end what it held at the start" (Decision
