@@ -602,6 +602,8 @@ const TRAILER: &str = "trailer changed";
 const OVERWRITTEN: &str = "reserved unit overwritten";
 const ON_RESERVED: &str = "a chunk on a reserved unit";
 const RESERVED_DATA: &str = "reserved unit planned";
+const NOT_LOWEST: &str = "not the lowest unit planned";
+const SCATTERED: &str = "a chunk not on the lowest units";
 const VERDICT: &str = "verdict";
 
 /// "LINK before the fence: a cut shows a map that isn't there." (01)
@@ -719,6 +721,63 @@ fn a_planner_that_takes_reserved_units_for_free_is_caught() {
     let case = lists::run(&rules, WITH_RESERVED[0], 100, seed(), &harm, &mut figures);
     assert!(case.is_none(), "the right checker refuses");
     assert!(figures.hands[Hand::Planner.index()][1] > 0, "and has to");
+}
+
+/// "A plan on other free units, accepted until now, gives 11 with rule 2" (02,
+/// request 6): checkers that let some of them pass. No chunk comes to harm by
+/// that, so it takes the rule's own words to notice.
+#[test]
+fn a_checker_that_takes_other_free_units_is_caught() {
+    let kinds = [VERDICT, NOT_LOWEST, SCATTERED];
+    let checkers: [(&str, wrong::CheckFn); 3] = [
+        ("any different free units", wrong::with_any_free_units),
+        ("free units that rise", wrong::with_rising_free_units),
+        ("the lowest in any order", wrong::with_lowest_in_any_order),
+    ];
+    for (rule, check) in checkers {
+        let rules = wrong::Checker(check);
+        notice(rule, &rules, &kinds);
+        notice_in(Edition::Two, rule, &rules, &kinds);
+        notice_on(WITH_RESERVED, rule, &rules, &kinds);
+        // In each scope, whichever plans are tried there.
+        SCOPES
+            .iter()
+            .for_each(|scope| notice_in_scope(rule, &rules, scope, &kinds));
+
+        // Whatever else is asked of a volume holds after such plans too.
+        let others = |seen: &Violation| !kinds.contains(&seen.name());
+        let mut figures = Figures::default();
+        for shape in [VOLUME_64K, VOLUME_64K.reserving(3)] {
+            let case = lists::run(&rules, shape, times(50), seed(), &others, &mut figures);
+            assert!(case.is_none(), "{rule}: no harm is done");
+        }
+        let [accepted, ..] = figures.hands[Hand::Scattered.index()];
+        assert!(accepted > 0, "{rule}: such plans pass");
+        for shape in [shape(2, 1, 2, 3), two(2, 1, 2, 3).reserving(1)] {
+            let scope = closure(shape, Plans::EveryMap);
+            let (_, case) = explore(&rules, &scope, &others);
+            assert!(case.is_none(), "{rule}: no harm is done");
+        }
+    }
+}
+
+/// "The choice of map stays free" (02, request 6), and so does "the order of the
+/// DATA steps" (Decision 82). "The checker never gives 9." (Decision 83)
+#[test]
+fn a_checker_that_asks_for_more_than_the_lowest_units_is_caught() {
+    // Volumes on which units become too few.
+    let shapes = [shape(4, 4, 5, 12), shape(2, 1, 2, 3)];
+    let checkers: [(&str, wrong::CheckFn); 3] = [
+        ("the lowest map only", wrong::with_the_lowest_map_only),
+        ("DATA steps in order only", wrong::with_data_in_order_only),
+        ("9 for want of units", wrong::with_no_room),
+    ];
+    for (rule, check) in checkers {
+        let rules = wrong::Checker(check);
+        notice_on(shapes, rule, &rules, &[VERDICT]);
+        let reserving = shapes.map(|shape| shape.reserving_before(1));
+        notice_on(reserving, rule, &rules, &[VERDICT]);
+    }
 }
 
 /// "No last FENCE": a plan is finished, and yet its LINK has not landed.

@@ -14,7 +14,7 @@ use crate::simulate::{Simulator, Violation};
 use crate::volume::{faults, Fault, Flaw, Reading, Volume};
 use crate::{notice_in_scope, LEDGER, LOAD, NO_MAP, ON_RESERVED, TWO_OWNERS};
 use crate::{seed, shape, two, volumes, wrong, VOLUME_64K};
-use crate::{OVERWRITTEN, RESERVED_DATA, VERDICT};
+use crate::{NOT_LOWEST, OVERWRITTEN, RESERVED_DATA, SCATTERED, VERDICT};
 
 /// What was repaired.
 #[derive(Clone, Debug, Default)]
@@ -287,6 +287,16 @@ fn a_checker_wrong_on_reserved_units_is_caught_after_a_repair() {
     notice_in_scope("reserved at need", &rules, &EVERY_IMAGE[5], &kinds);
     let rules = wrong::Checker(wrong::with_reserved_units_no_units);
     notice_in_scope("rule 1", &rules, &EVERY_IMAGE[5], &[VERDICT]);
+}
+
+/// So are plans on other free units.
+#[test]
+fn a_checker_that_takes_other_free_units_is_caught_after_a_repair() {
+    let kinds = [VERDICT, NOT_LOWEST, SCATTERED];
+    let rules = wrong::Checker(wrong::with_any_free_units);
+    for scope in &EVERY_IMAGE {
+        notice_in_scope("any different free units", &rules, scope, &kinds);
+    }
 }
 
 /// What no event list can give away, because the image is sound: that one side

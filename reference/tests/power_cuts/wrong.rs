@@ -48,8 +48,11 @@ pub fn carry_as_judged(
     verdict
 }
 
+/// What a checker is.
+pub type CheckFn = fn(&Shape, &[u8], Request, &[u8]) -> CAnswer;
+
 /// A wrong checker, with a carrier that believes it.
-pub struct Checker(pub fn(&Shape, &[u8], Request, &[u8]) -> CAnswer);
+pub struct Checker(pub CheckFn);
 
 impl Rules for Checker {
     const BELIEVED: bool = true;
@@ -438,6 +441,123 @@ pub fn with_reserved_units_no_units(
     match check(image, request, plan) {
         broken if broken.number == 11 && decode(plan).iter().any(reserved) => refusal(11, 1),
         answer => answer,
+    }
+}
+
+/// Rule 2 with another word on which units will do: where the rule alone is
+/// broken by a plan with each piece once, and these units pass, the library is
+/// asked about the plan with the lowest units in their place.
+fn with_units(
+    shape: &Shape,
+    image: &[u8],
+    request: Request,
+    plan: &[u8],
+    will_do: fn(units: &[u64], free: &[u64]) -> bool,
+) -> CAnswer {
+    let right = check(image, request, plan);
+    if [right.number, right.place] != [11, 2] || request.size.is_none() {
+        return right;
+    }
+    let mut steps = decode(plan);
+    let mut data: Vec<Fields> = steps
+        .iter()
+        .copied()
+        .filter(|step| step[0] == DATA)
+        .collect();
+    data.sort_unstable_by_key(|step| step[2]);
+    let pieces = data.iter().map(|step| u64::from(step[2]));
+    let units: Vec<u64> = data.iter().map(|step| u64::from(step[1])).collect();
+    let free = free_units(shape, image);
+    if !pieces.eq(0..request.k()) || units.len() > free.len() || !will_do(&units, &free) {
+        return right;
+    }
+    // One unit for another throughout, so that MAP is right where it was.
+    let mut exchanged: Vec<u64> = (0..shape.n).collect();
+    for (&unit, &lowest) in units.iter().zip(&free) {
+        let other = exchanged.iter().position(|&new| new == lowest);
+        exchanged.swap(unit as usize, other.expect("each is there once"));
+    }
+    for step in &mut steps {
+        let field = match step[0] {
+            DATA => 1,
+            MAP if u64::from(step[2]) >= shape.size_words() => 3,
+            _ => continue,
+        };
+        if let Some(&new) = exchanged.get(step[field] as usize) {
+            step[field] = new as u32;
+        }
+    }
+    check(image, request, &encode(&steps))
+}
+
+/// Rule 2 as it was until request 6: "on different free units" (01).
+pub fn with_any_free_units(shape: &Shape, image: &[u8], request: Request, plan: &[u8]) -> CAnswer {
+    with_units(shape, image, request, plan, |units, free| {
+        let different = (1..units.len()).all(|at| !units[..at].contains(&units[at]));
+        different && units.iter().all(|unit| free.contains(unit))
+    })
+}
+
+/// Free units in rising order, though not the lowest.
+pub fn with_rising_free_units(
+    shape: &Shape,
+    image: &[u8],
+    request: Request,
+    plan: &[u8],
+) -> CAnswer {
+    with_units(shape, image, request, plan, |units, free| {
+        let rising = units.windows(2).all(|pair| pair[0] < pair[1]);
+        rising && units.iter().all(|unit| free.contains(unit))
+    })
+}
+
+/// The lowest free units, though not piece 0 on the lowest.
+pub fn with_lowest_in_any_order(
+    shape: &Shape,
+    image: &[u8],
+    request: Request,
+    plan: &[u8],
+) -> CAnswer {
+    with_units(shape, image, request, plan, |units, free| {
+        let mut units = units.to_vec();
+        units.sort_unstable();
+        free.starts_with(&units)
+    })
+}
+
+/// Takes no map but the lowest free one.
+pub fn with_the_lowest_map_only(
+    shape: &Shape,
+    image: &[u8],
+    request: Request,
+    plan: &[u8],
+) -> CAnswer {
+    let lowest = free_maps(shape, image)[0];
+    let other = |step: &Fields| step[0] == MAP && u64::from(step[1]) != lowest;
+    match check(image, request, plan) {
+        good if good.number == 0 && decode(plan).iter().any(other) => refusal(11, 3),
+        answer => answer,
+    }
+}
+
+/// Takes DATA steps in the order of their pieces only.
+pub fn with_data_in_order_only(_: &Shape, image: &[u8], request: Request, plan: &[u8]) -> CAnswer {
+    let steps = decode(plan);
+    let data = steps.iter().filter(|step| step[0] == DATA);
+    match check(image, request, plan) {
+        good if good.number == 0 && !data.is_sorted_by_key(|step| step[2]) => refusal(11, 2),
+        answer => answer,
+    }
+}
+
+/// Gives the planner's 9 where too few units are free.
+pub fn with_no_room(shape: &Shape, image: &[u8], request: Request, plan: &[u8]) -> CAnswer {
+    let answer = check(image, request, plan);
+    let free = free_units(shape, image).len() as u64;
+    if [answer.number, answer.place] == [11, 2] && free < request.k() {
+        refusal(9, free)
+    } else {
+        answer
     }
 }
 
