@@ -6,12 +6,13 @@
 //! and to be sound, no unit has two owners, every chunk holds what the ledger
 //! gives it and answers the size of the write that gave it, and the chunk in
 //! flight holds all its new pieces or all its old ones. Units that are reserved
-//! hold the boot loader's content from the start to the end.
+//! hold the boot loader's content from the start to the end. A write that passes
+//! and lands is on the lowest units that were free.
 //!
 //! Lists of events are random on many volumes and exhaustive on small ones, in
 //! both editions, in edition 2 with and without reserved units, and start from
-//! format, from a repair or from a conversion. Rules that are wrong on purpose
-//! show that the simulator can fail.
+//! format, from a repair, from a conversion or from chunks that lie anywhere.
+//! Rules that are wrong on purpose show that the simulator can fail.
 //!
 //! `SUMBILAK_LISTS` runs so many times as many random lists, `SUMBILAK_SEED`
 //! changes their seed, `SUMBILAK_STORIES` prints the lists that wrong rules
@@ -388,6 +389,21 @@ fn small_volumes_exhaustively() {
         panic!("{case}");
     }
     assert!(tried, "plans on other units than the lowest free ones");
+}
+
+/// Two orders by every map reach the same states as every order and one more
+/// FENCE anywhere do, as [`Plans::EveryMap`] says.
+#[test]
+fn other_orders_and_fences_make_no_more_states() {
+    for shape in [shape(2, 1, 2, 3), shape(2, 1, 3, 2)] {
+        let [some, all] = [Plans::EveryMap, Plans::EveryChoice].map(|plans| {
+            let (tally, case) = explore(&Library, &closure(shape, plans), &any);
+            assert!(case.is_none(), "{}", name(&shape));
+            tally
+        });
+        assert_eq!(some.states, all.states);
+        assert!(some.accepted < all.accepted);
+    }
 }
 
 /// The legal plans of exactly so many steps on the smallest volume, for a
