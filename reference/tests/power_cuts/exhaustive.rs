@@ -397,8 +397,9 @@ const SOME_MORE: usize = 4;
 impl<R: Rules> Explorer<'_, R> {
     /// Every plan of a write that is the planner's in its order and legal but
     /// for its units, by the lowest free map; where every choice is tried, by
-    /// each free one. These are all arrangements of k units but the lowest free
-    /// ones in their order. Rule 2 is broken whatever the map is.
+    /// each free one. These are all arrangements of k units (of which ones, see
+    /// [`FEW_UNITS`]) but the lowest free ones in their order. Rule 2 is broken
+    /// whatever the map is.
     fn elsewhere(&self, image: &[u8], request: Request) -> Vec<(Vec<u8>, Hand)> {
         let shape = &self.simulator.shape;
         let Some(size) = request.size else {

@@ -1,5 +1,6 @@
-//! Plans from any hand: legal ones that the planner would not make, legal ones
-//! with one defect, and legal ones changed at random.
+//! Plans from any hand: legal ones that the planner would not make, ones legal
+//! but for the units that they write on, legal ones with one defect, and legal
+//! ones changed at random.
 
 use sumbilak_reference::inputs::{
     assemble, encode, entry, miscounted, other_units, put_on, size_of, Edition, Fields, Shape,

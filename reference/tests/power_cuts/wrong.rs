@@ -1,5 +1,6 @@
-//! Rules that are wrong on purpose. Under each of them a volume comes to lie,
-//! and the simulator has to notice from the volume alone.
+//! Rules that are wrong on purpose. Under most of them a volume comes to lie,
+//! and the simulator has to notice from the volume alone. Where no chunk comes to
+//! harm, the words of the rule that is broken have to give it away.
 
 use sumbilak_reference::ffi::{self, CAnswer, LOAD_WORDS};
 use sumbilak_reference::inputs::{
