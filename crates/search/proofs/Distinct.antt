@@ -6,12 +6,12 @@ use mathlib.Core.Path.{_≡_, refl, sym, ap, _∙_}
 use mathlib.Core.Logic.{_⊎_, inl, inr, ⊎-elim}
 use mathlib.Core.Bool.{Bool, true, false, not, Bool·not-not}
 use mathlib.Core.List.{List, [], _∷_, _++_}
-use lib.ListN.{length, getD, take}
+use lib.ListN.{length, getD}
 use lib.Dec.{eqb}
 use borrow.Author.Tests.{not-true}
 use Rattle.search.specs.Search.{from, any, keep, member, distinct, disjoint}
 use Rattle.search.proofs.Bools.{contradict, and-left, and-right, and-intro, or-none, or-false-right, not-of-false, is-false, either, eqb-comm, less-or-not}
-use Rattle.search.proofs.Members.{member-nil, member-cons, member-head, member-tail, member-place, member-getD, member-take, member-append, all-at, all-intro, all-not, any-ext, any-swap}
+use Rattle.search.proofs.Members.{member-nil, member-cons, member-head, member-tail, member-place, member-getD, member-append, all-at, all-intro, all-not, any-ext, any-swap}
 use Rattle.search.proofs.Ranges.{member-from}
 use Rattle.search.proofs.Kept.{keep-nil, keep-cons-true, keep-cons-false, member-keep}
 
@@ -74,13 +74,6 @@ distinct-keep f (x ∷ xs) e = go (distinct-keep f xs (distinct-tail x xs e)) (e
     go : distinct (keep f xs) ≡ true → (f x ≡ true) ⊎ (f x ≡ false) → distinct (keep f (x ∷ xs)) ≡ true
     go ih (inl p) = ap distinct (keep-cons-true f x xs p) ∙ distinct-cons x (keep f xs) apart ih
     go ih (inr p) = ap distinct (keep-cons-false f x xs p) ∙ ih
-
-pub distinct-take : (n : ℕ) (xs : List ℕ) → distinct xs ≡ true → distinct (take n xs) ≡ true
-distinct-take zero xs d = distinct-nil
-distinct-take (suc n) [] d = d
-distinct-take (suc n) (x ∷ xs) d =
-    distinct-cons x (take n xs) (is-false (member x (take n xs)) (λ m. contradict (member-take n x xs m) (distinct-head x xs d)))
-    (distinct-take n xs (distinct-tail x xs d))
 
 -- ---- disjoint
 

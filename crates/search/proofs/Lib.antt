@@ -9,3 +9,5 @@ pub mod Joined
 pub mod Repeated
 pub mod Mapping
 pub mod Rising
+pub mod Filling
+pub mod Ranks

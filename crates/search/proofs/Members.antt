@@ -85,9 +85,6 @@ any-none f xs h = is-false (any f xs) (λ e. let r = any-at f xs e in contradict
 pub any-none-at : (f : ℕ → Bool) (xs : List ℕ) → any f xs ≡ false → (x : ℕ) → member x xs ≡ true → f x ≡ false
 any-none-at f xs e x m = is-false (f x) (λ p. contradict (any-intro f xs x m p) e)
 
-pub all-take : (f : ℕ → Bool) (k : ℕ) (xs : List ℕ) → all f xs ≡ true → all f (take k xs) ≡ true
-all-take f k xs e = all-intro f (take k xs) (λ x m. all-at f xs e x (member-take k x xs m))
-
 -- ---- all and any, by their tests
 
 module _ (f g : ℕ → Bool) (h : (y : ℕ) → f y ≡ g y) where
@@ -168,10 +165,6 @@ first-member d (x ∷ xs) h = member-head x x xs refl
 
 pub all-first : (f : ℕ → Bool) (d : ℕ) (xs : List ℕ) → all f xs ≡ true → 0 < length xs → f (firstOr d xs) ≡ true
 all-first f d xs e h = all-at f xs e (firstOr d xs) (first-member d xs h)
-
-pub first-same : (a b : ℕ) (xs : List ℕ) → 0 < length xs → firstOr a xs ≡ firstOr b xs
-first-same a b [] h = absurd (omega arith)
-first-same a b (x ∷ xs) h = refl
 
 pub first-append : (d : ℕ) (xs ys : List ℕ) → firstOr d (xs ++ ys) ≡ firstOr (firstOr d ys) xs
 first-append d [] ys = refl

@@ -7,8 +7,8 @@ use mathlib.Core.Path.{_≡_, refl, sym, ap, subst, _∙_}
 use mathlib.Core.Logic.{⊎-elim}
 use mathlib.Core.Bool.{Bool, true, false, cond}
 use mathlib.Core.List.{List, [], _∷_, _++_}
-use lib.ListN.{length, getD, take, set}
-use lib.Seq.{sets, getD-take, length-take-le}
+use lib.ListN.{length, getD, take}
+use lib.Seq.{getD-take, length-take-le}
 use Rattle.search.specs.Search.{from, below, keep, member, rising, firstOr}
 use Rattle.search.specs.Sets.{Lowest}
 use Rattle.search.proofs.Bools.{contradict, either, less-or-not}
@@ -93,13 +93,6 @@ module _ (f : ℕ → Bool) (n : ℕ) where
   pub rising-empty : (i u : ℕ) → length (rising f n i) ≡ 0 → i ≤ u → u < n → f u ≡ false
   unfolding rising
   rising-empty i u e h l = keep-empty f i (n - i) (no-numbers (rising f n i) e) u h (omega arith)
-
--- one turn of a loop that stores the first k - j of xs from index j
-pub sets-take-step : (j k a : ℕ) (xs ys : List ℕ) → j < k → xs ≡ a ∷ ys → (l : List ℕ)
-    → sets (set l j a) (j + 1) (take (k - (j + 1)) ys) ≡ sets l j (take (k - j) xs)
-sets-take-step j k a xs ys h e l =
-    let d : k - j ≡ suc (k - (j + 1)) = omega arith in
-    rw (d, e, add-one j)
 
 -- ---- how many there are
 
