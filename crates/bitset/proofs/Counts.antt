@@ -15,10 +15,10 @@ use Rattle.bitset.proofs.Digits.{digit, digit-le}
 
 -- ---- the lowest digit, and the number that the others make
 
-low-digit : (v : Bool) (x : ℕ) → (digit v + 2 * x) % 2 ≡ digit v
+pub low-digit : (v : Bool) (x : ℕ) → (digit v + 2 * x) % 2 ≡ digit v
 low-digit v x = omega (arith, digit-le v)
 
-high-digits : (v : Bool) (x : ℕ) → (digit v + 2 * x) / 2 ≡ x
+pub high-digits : (v : Bool) (x : ℕ) → (digit v + 2 * x) / 2 ≡ x
 high-digits v x = omega (arith, digit-le v)
 
 -- ---- k digits of a test

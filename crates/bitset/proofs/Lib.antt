@@ -4,3 +4,5 @@ pub mod BitSets
 pub mod Members
 pub mod Counts
 pub mod Theorems
+pub mod Ones
+pub mod Taking

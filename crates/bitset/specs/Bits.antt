@@ -5,7 +5,7 @@ use mathlib.Core.List.{List, map}
 use mathlib.Core.Path.{_≡_}
 use lib.ListN.{length, getD}
 use lib.Dec.{eqb}
-use Rattle.search.specs.Search.{below, rising}
+use Rattle.search.specs.Search.{below, keep, rising}
 use Rattle.search.specs.Sets.{put}
 
 -- k digits of a word, the lowest first: digit b is 1 where f holds at `base` + b
@@ -40,6 +40,10 @@ membersFrom ws i = rising (inSet ws) (limit ws) i
 
 abbrev pub members : List ℕ → List ℕ
 members ws = membersFrom ws 0
+
+-- the members below n, "rising"
+abbrev pub membersBelow : List ℕ → ℕ → List ℕ
+membersBelow ws n = keep (inSet ws) (below n)
 
 -- r is the lowest member from `start` on or, where there is none, the limit: "none exactly when nothing is free" (02, request 2). No promise cites it: the
 -- theorems say that `firstOr (limit ws) (membersFrom ws start)`, which `next_member` answers, is such a number, and the only one.

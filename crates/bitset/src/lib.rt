@@ -2,10 +2,11 @@
 ghost use mathlib.Core.Path.{_≡_};
 ghost use mathlib.Core.Bool.{_&&_};
 ghost use Prim.Native.Nat.{_*_, _%_, _^_, _<_, _≤_};
-ghost use lib.ListN.{length};
+ghost use lib.ListN.{length, take};
+ghost use lib.Seq.{sets};
 ghost use lib.Dec.{ltb, leb};
 ghost use Rattle.search.specs.Search.{firstOr};
-ghost use Rattle.bitset.specs.Bits.{bits, bitSet, inSet, limit, inserted, removed, membersFrom, members};
+ghost use Rattle.bitset.specs.Bits.{bits, bitSet, inSet, limit, inserted, removed, membersFrom, members, membersBelow};
 
 // A word with all its bits.
 const FULL: u64 = 18446744073709551615;
@@ -143,4 +144,31 @@ pub fn count(set: &[u64]) -> usize
         i += 1;
     }
     n
+}
+
+// Stores the lowest members below `end` in `out`, rising, as many as it has room for, and answers how many.
+pub fn lowest(set: &[u64], end: u32, out: &mut [u32]) -> usize
+    requires { ⌜ limit (now set) < 2 ^ 64 ⌝ }
+    ensures { λ r. ⌜ r ≡ length (take (length (now (out .entry))) (membersBelow (now (set .entry)) end)) ⌝ }
+    ensures { λ r. ⌜
+        now (out .exit) ≡ sets (now (out .entry)) 0 (take (length (now (out .entry))) (membersBelow (now (set .entry)) end))
+        ⌝ }
+{
+    let mut j: usize = 0;
+    for i in 0..set.len() {
+        if out.len() <= j {
+            return j;
+        }
+        // The members in word i: the lowest is taken and cleared, as long as there is one.
+        let mut rest = set[i] & word_below(end as usize, i);
+        while rest != 0 {
+            if out.len() <= j {
+                return j;
+            }
+            out[j] = (64 * i + u64::trailing_zeros(rest) as usize) as u32;
+            j += 1;
+            rest = rest & (rest - 1);
+        }
+    }
+    j
 }
