@@ -22,7 +22,7 @@ use Rattle.search.proofs.Bools.{contradict, either, and-left, and-right, and-in
 use Rattle.search.proofs.Members.{member-nil, member-cons, member-head}
 use Rattle.search.proofs.Ranges.{member-from, member-below, below-member, any-below, any-below-intro, any-below-none, any-below-none-intro, length-from}
 use Rattle.search.proofs.Kept.{keep-all, keep-none, keep-ext, keep-cut}
-use Rattle.search.proofs.Distinct.{distinct-from, distinct-keep}
+use Rattle.search.proofs.Distinct.{distinct-from}
 use Rattle.search.proofs.Counting.{left-at-least, left-exactly, unlisted}
 use Rattle.search.proofs.Joined.{distinct-joined, member-joined, length-joined}
 use Rattle.search.specs.Sets.{without}
@@ -68,12 +68,6 @@ unfolding freeMap
 freeMap-intro s k h f =
     and-intro (ltb k (shapeOf s .m)) _ (lt-ltb k (shapeOf s .m) h)
     (not-of-false _ (any-below-none-intro (λ i. eqb (linkOf s i) k) (shapeOf s .c) (λ i l. ne-eqb (linkOf s i) k (f i l))))
-
--- ---- the lists
-
-pub distinct-freeUnits : (s : List ℕ) → distinct (freeUnits s) ≡ true
-unfolding freeUnits
-distinct-freeUnits s = distinct-keep (freeUnit s) (below (shapeOf s .n)) (distinct-from 0 (shapeOf s .n))
 
 -- ---- how many
 

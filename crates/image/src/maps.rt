@@ -8,7 +8,8 @@ use layout::geometry::map_word_place;
 ghost use mathlib.Core.Path.{_≡_};
 ghost use Prim.Native.Nat.{_<_, _≤_};
 ghost use lib.ListN.{length, getD, drop};
-ghost use lib.Dec.{eqb};
+ghost use lib.Dec.{eqb, ltb};
+ghost use mathlib.Core.Bool.{_&&_};
 ghost use Rattle.search.specs.Search.{all};
 ghost use Rattle.layout.specs.Layout.{X, mapWords, shapeOf, linkOf};
 ghost use Rattle.layout.specs.Shaped.{Shaped, mapOf, unitWordsOf};
@@ -25,12 +26,14 @@ pub fn link(image: &[u8], g: Shape, i: usize) -> u64
     words::get_u64(image, 8 * i)
 }
 
-// Whether chunk i is mapped.
+// Whether chunk i is below C and mapped.
 pub fn is_mapped(image: &[u8], g: Shape, i: u64) -> bool
     requires { ⌜ Shaped (now image) g ⌝ }
-    requires { ⌜ i < g .c ⌝ }
-    ensures { λ r. ⌜ r ≡ mapped (now (image .entry)) i ⌝ }
+    ensures { λ r. ⌜ r ≡ (ltb i (g .c) && mapped (now (image .entry)) i) ⌝ }
 {
+    if i >= g.c as u64 {
+        return false;
+    }
     link(image, g, i as usize) != ABSENT
 }
 
