@@ -15,10 +15,9 @@ use Rattle.steps.specs.declared.Step.{Step}
 use Rattle.steps.specs.declared.Decoded.the-variants.{Whole, Malformed}
 use Rattle.steps.specs.declared.Found.{Found}
 use Rattle.steps.specs.declared.Found.the-variants.{Next, End}
-use Rattle.steps.specs.declared.Reader.{Reader}
 use Rattle.steps.specs.Steps.{stepBytes, encode, decodeAt, encodeAll, putSteps, wholeSteps, decodedSteps, stepsOf}
 use Rattle.steps.specs.Encodable.{Each, Fits, WellFormed}
-use Rattle.steps.specs.Reading.{foundAt, nextAt, started, readings}
+use Rattle.steps.specs.Reading.{foundAt, nextAt, readerAt, started, readings}
 use Rattle.steps.proofs.Codec.{decode-here, decode-skip, length-encode, bytes-encoded, length-encoded, whole-encoded, formed-encoded, steps-encoded}
 use Rattle.steps.proofs.Encoding.{putSteps-one}
 use Rattle.steps.proofs.Decoding.{decoded-fits, decoded-bytes, encode-rest}
@@ -38,7 +37,7 @@ encode-decode s x b l e =
       sym (append-nil (encode x)) ∙ ap (λ (r : List ℕ). encode x ++ r) end ∙ sym (decoded-bytes s b 0 (omega arith) x e),
     )
 
--- What `put_step` stores, `decode_at` reads.
+-- What `put_step` stores, `step_at` reads.
 pub decode-put : (out : List ℕ) (i : ℕ) (x : Step) → i < wholeSteps out → Fits x → decodeAt (putSteps out i (x ∷ [])) i ≡ Whole x
 decode-put out i x h f =
     let l = length-encode x in
@@ -70,16 +69,13 @@ encode-decode-plan plan w = rw (rest-start plan) (encode-rest plan w 0 (wholeSte
 -- ---- the reader
 
 module _ (plan : RefT (List ℕ)) where
-  abbrev at : ℕ → Reader
-  at i = record { plan = plan; at = i }
-
-  ended : (i n : ℕ) → wholeSteps (now plan) ≤ i → readings (at i) n ≡ replicate n End
+  ended : (i n : ℕ) → wholeSteps (now plan) ≤ i → readings (readerAt plan i) n ≡ replicate n End
   unfolding readings foundAt nextAt
   ended i zero h = refl
   ended i (suc n) h = rw (le-ltb i (wholeSteps (now plan)) h) (ap (λ (l : List Found). End ∷ l) (ended i n h))
 
   read-on : (i k n : ℕ) → i + k ≡ wholeSteps (now plan)
-      → readings (at i) (k + n) ≡ map Next (map (decodeAt (now plan)) (from i k)) ++ replicate n End
+      → readings (readerAt plan i) (k + n) ≡ map Next (map (decodeAt (now plan)) (from i k)) ++ replicate n End
   unfolding readings foundAt nextAt from
   read-on i zero n e = rw (zero-add n) (ended i n (omega arith))
   read-on i (suc k) n e =

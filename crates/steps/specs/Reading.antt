@@ -18,9 +18,13 @@ foundAt plan at = cond (ltb at (wholeSteps plan)) (Next (decodeAt plan at)) End
 unfoldable pub nextAt : List ℕ → ℕ → ℕ
 nextAt plan at = cond (ltb at (wholeSteps plan)) (at + 1) at
 
+-- a reader of a plan, at a step
+abbrev pub readerAt : RefT (List ℕ) → ℕ → Reader
+readerAt plan at = record { plan = plan; at = at }
+
 -- a reader of a plan, at its first step
 abbrev pub started : RefT (List ℕ) → Reader
-started plan = record { plan = plan; at = 0 }
+started plan = readerAt plan 0
 
 -- what a reader finds, and the reader past it: over the same plan, which is still only lent
 abbrev pub advanced : Reader → Advanced

@@ -1,13 +1,14 @@
 -- Requests, values and steps, and the bytes of a plan both ways: document 01's section 'Plans' up to the planner.
 use Prim.Native.Nat.{ℕ, _+_, _-_, _*_, _/_}
-use mathlib.Core.Bool.{cond}
+use mathlib.Core.Bool.{Bool, true, cond}
 use mathlib.Core.List.{List, [], _∷_, _++_, map}
 use lib.ListN.{length}
 use lib.Seq.{sets}
-use lib.Dec.{eqb}
+use lib.Dec.{eqb, ltb}
 use Rattle.search.specs.Search.{below}
 use Rattle.words.specs.Words.{u32At, digits}
-use Rattle.layout.specs.Layout.{X, unitsFor}
+use Rattle.layout.specs.declared.Shape.{Shape}
+use Rattle.layout.specs.Layout.{X, isSize, unitsFor}
 use Rattle.steps.specs.declared.Value.{Value}
 use Rattle.steps.specs.declared.Value.the-variants.{Number, Absent}
 use Rattle.steps.specs.declared.Step.{Step}
@@ -32,6 +33,14 @@ sizeOf (Discard i) = 0
 abbrev pub needOf : Request → ℕ
 needOf (Write i size) = unitsFor size
 needOf (Discard i) = 0
+
+-- "A request is good if its chunk is below C and a write's size is 1 to P·4,096."
+abbrev pub goodChunk : Shape → Request → Bool
+goodChunk g r = ltb (chunkOf r) (g .c)
+
+abbrev pub goodSize : Shape → Request → Bool
+goodSize g (Write i size) = isSize g size
+goodSize g (Discard i) = true
 
 -- ---- values: "A MAP or LINK value is a number or X; X is written 4294967295 and stored as 2^64-1."
 

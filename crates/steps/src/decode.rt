@@ -68,7 +68,7 @@ fn decode_fields(kind: u32, a: u32, b: u32, d: u32) -> Decoded
 }
 
 // Step i of a plan.
-pub fn decode_at(plan: &[u8], i: usize) -> Decoded
+pub(crate) fn decode_at(plan: &[u8], i: usize) -> Decoded
     requires { ⌜ i < wholeSteps (now plan) ⌝ }
     ensures { λ r. ⌜ r ≡ decodeAt (now (plan .entry)) i ⌝ }
 {

@@ -1,7 +1,8 @@
-// Plans: the steps of a write or a discard, their 16 bytes both ways, and the reader of a plan.
-pub mod decode;
+// Plans: the steps of a write or a discard, their 16 bytes both ways, the reader of a plan, and what a request says.
+mod decode;
 pub mod encode;
 pub mod reading;
+pub mod requests;
 pub mod values;
 
 // The bytes of a step: four u32, of which the first is its kind.
