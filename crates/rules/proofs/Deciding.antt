@@ -21,11 +21,11 @@ module _ (kn : Known) (r : Request) (plan : List ℕ) where
   broken-1 e = rw e refl
 
   module _ (e1 : rule1 (kn .shape) plan ≡ true) where
-    pub broken-2 : rule2 (kn .unitFree) r (stepsOf plan) ≡ false → 2 ≡ brokenRule kn r plan
+    pub broken-2 : rule2 (kn .freeUnits) r (stepsOf plan) ≡ false → 2 ≡ brokenRule kn r plan
     unfolding brokenRule
     broken-2 e = simp (e1, e)
 
-    module _ (e2 : rule2 (kn .unitFree) r (stepsOf plan) ≡ true) where
+    module _ (e2 : rule2 (kn .freeUnits) r (stepsOf plan) ≡ true) where
       pub broken-3 : rule3 (kn .shape) (kn .mapFree) r (stepsOf plan) ≡ false → 3 ≡ brokenRule kn r plan
       unfolding brokenRule
       broken-3 e = simp (e1, e2, e)

@@ -10,18 +10,23 @@ use borrow.Author.Tests.{eqb-true, ltb-true, leb-true}
 use Rattle.search.specs.Search.{all, member, distinct}
 use Rattle.layout.specs.Layout.{X, unitBytes, unitsFor, head, mapWords, afterHead, shapeOf}
 use Rattle.image.specs.Soundness.{mapped}
-use Rattle.image.specs.Free.{freeUnit, freeMap}
+use Rattle.image.specs.Free.{freeUnit, freeUnits, freeMap}
 use Rattle.search.proofs.Bools.{and-three, and-four, contradict, and-left, and-right, cond-true, cond-false}
 use Rattle.search.proofs.Members.{all-at}
 use Rattle.search.proofs.Counting.{covers}
 use Rattle.steps.specs.declared.Step.{Step}
 use Rattle.steps.specs.declared.Step.the-variants.{Data, Map, Link, Fence}
 use Rattle.steps.specs.declared.Request.the-variants.{Write, Discard}
-use Rattle.rules.specs.Rules.{collect, linkIn, pieces, units, maps, words, links, linked, unitOf, wordFor, mapsFit, endsIn, beforeLink, afterLink, isNone, planMap, onceEach, linksAre, rule2, rule3, rule4, rule5, goodSize}
+use Rattle.steps.specs.Steps.{goodSize}
+use Rattle.rules.specs.Rules.{collect, linkIn, pieces, units, maps, words, links, linked, unitOf, wordFor}
+use Rattle.rules.specs.Rules.{mapsFit, endsIn, beforeLink, afterLink, isNone, planMap, onceEach, linksAre, rule2, rule3, rule4, rule5}
 use Rattle.steps.specs.Encodable.{Each}
 use Rattle.steps.proofs.Codec.{each-map}
+use Rattle.rules.proofs.Once.{once}
+use Rattle.rules.proofs.Dealing.{rule2-pieces, rule2Before, kept-before}
 use Rattle.rules.proofs.Places.{empty}
-use Rattle.rules.proofs.StepLaws.{InRange, OnMap, OnLink, NoMap, Stores, Links, on-links, wordsOn, words-on, words-below, each-on-map, fit-free, each-link, each-stores, each-no-map, same-count, unitOf-in, unitOf-none, unitOf-one}
+use Rattle.rules.proofs.StepLaws.{InRange, OnMap, OnLink, NoMap, Stores, Links, on-links, wordsOn, words-on, words-below}
+use Rattle.rules.proofs.StepLaws.{each-on-map, fit-free, each-link, each-stores, each-no-map, same-count, unitOf-in, unitOf-none, unitOf-one}
 
 -- What a plan does for one chunk c: it puts k free units on the free map m, `unit j` for piece j, with the size where a map keeps it, and links c to it.
 pub record Deal (s : List ℕ) (xs : List Step) (c size k m : ℕ) (unit : ℕ → ℕ) : Type 0 where
@@ -66,10 +71,6 @@ one-some : (xs : List ℕ) → length xs ≡ 1 → isNone xs ≡ false
 one-some [] h = absurd (omega arith)
 one-some (x ∷ xs) h = refl
 
-pub once : (n : ℕ) (xs : List ℕ) → onceEach n xs ≡ true → (length xs ≡ n) × (distinct xs ≡ true) × (all (λ j. ltb j n) xs ≡ true)
-unfolding onceEach
-once n xs h = let k = and-three (eqb (length xs) n) (distinct xs) (all (λ j. ltb j n) xs) h in (eqb-true (length xs) n (k .0), k .1, k .2)
-
 -- the last step is a FENCE where the last one after the LINK is
 pub ends-after : (b : Bool) (xs : List Step) → isNone (links xs) ≡ false → endsIn false (afterLink xs) ≡ true → endsIn b xs ≡ true
 unfolding collect linkIn afterLink endsIn
@@ -82,19 +83,19 @@ ends-after b (Fence ∷ xs) n h = ends-after true xs n h
 module _ (s : List ℕ) (c : ℕ) (xs : List Step) where
   pub writes :
       (size : ℕ) → Each (InRange (shapeOf s)) xs → goodSize (shapeOf s) (Write c size) ≡ true → 1 ≤ mapWords (shapeOf s)
-      → rule2 (freeUnit s) (Write c size) xs ≡ true
+      → rule2 (freeUnits s) (Write c size) xs ≡ true
       → rule3 (shapeOf s) (freeMap s) (Write c size) xs ≡ true
       → rule4 (mapped s c) (Write c size) xs ≡ true
       → rule5 (mapped s c) (Write c size) xs ≡ true
       → Writes s c size xs
-  unfolding rule2 rule3 rule4 rule5 linksAre
+  unfolding rule2Before freeUnits rule3 rule4 rule5 linksAre
   writes size r h some r2 r3 r4 r5 =
       let g = shapeOf s in
       let k = unitsFor size in
       let m = planMap xs in
       let low : 1 ≤ size = leb-true 1 size (and-left (leb 1 size) (leb size (g .p * unitBytes)) h) in
       let high : size ≤ g .p * unitBytes = leb-true size (g .p * unitBytes) (and-right (leb 1 size) (leb size (g .p * unitBytes)) h) in
-      let a = and-three (onceEach k (pieces xs)) (distinct (units xs)) (all (freeUnit s) (units xs)) r2 in
+      let a = and-three (onceEach k (pieces xs)) (distinct (units xs)) (all (freeUnit s) (units xs)) (kept-before (freeUnit s) (g .n) (Write c size) xs r2) in
       let p = once k (pieces xs) (a .0) in
       let word = wordFor g size xs in
       let fit = mapsFit m (freeMap s) word xs in
@@ -135,17 +136,16 @@ module _ (s : List ℕ) (c : ℕ) (xs : List Step) where
   none-of (y ∷ ys) h = absurd (omega arith)
 
   pub discards :
-      mapped s c ≡ true → rule2 (freeUnit s) (Discard c) xs ≡ true → rule3 (shapeOf s) (freeMap s) (Discard c) xs ≡ true
+      mapped s c ≡ true → rule2 (freeUnits s) (Discard c) xs ≡ true → rule3 (shapeOf s) (freeMap s) (Discard c) xs ≡ true
       → rule4 (mapped s c) (Discard c) xs ≡ true
       → rule5 (mapped s c) (Discard c) xs ≡ true
       → Discards c xs
-  unfolding rule2 rule3 rule4 rule5 linksAre
+  unfolding rule3 rule4 rule5 linksAre
   discards m r2 r3 r4 r5 =
       let n : ℕ = cond (mapped s c) 1 0 in
       let one : n ≡ 1 = cond-true (mapped s c) 1 0 m in
       let l = and-three (eqb (length (links xs)) n) (all (eqb c) (links xs)) (all (eqb X) (linked xs)) r4 in
-      let a = and-three (onceEach 0 (pieces xs)) (distinct (units xs)) (all (freeUnit s) (units xs)) r2 in
-      let p = once 0 (pieces xs) (a .0) in
+      let p = once 0 (pieces xs) (rule2-pieces (freeUnits s) xs (Discard c) r2) in
       let w = once 0 (words xs) (and-left (onceEach 0 (words xs)) (mapsFit (planMap xs) (freeMap s) (wordFor (shapeOf s) 0 xs) xs) r3) in
       record {
         no-data = none-of (units xs) (same-count xs ∙ p .0);

@@ -1,16 +1,16 @@
 -- A good request to read, and the tests of one: each from the other.
-use Prim.Native.Nat.{_*_, _<_}
+use Prim.Native.Nat.{_*_, _≤_, _<_}
+use native.Mathlib.Omega.{arith}
 use mathlib.Core.Path.{_≡_, refl}
 use mathlib.Core.Bool.{true}
 use lib.Dec.{leb}
 use borrow.Author.Tests.{lt-ltb, leb-true, le-leb}
 use Rattle.search.proofs.Bools.{and-left, and-right, and-intro}
 use Rattle.layout.specs.declared.Shape.{Shape}
-use Rattle.layout.specs.Layout.{unitBytes}
+use Rattle.layout.specs.Layout.{maxChunkUnits, maxChunkBytes, unitBytes}
 use Rattle.steps.specs.declared.Request.{Request}
 use Rattle.steps.specs.declared.Request.the-variants.{Write, Discard}
-use Rattle.steps.specs.Steps.{chunkOf}
-use Rattle.rules.specs.Rules.{goodChunk, goodSize}
+use Rattle.steps.specs.Steps.{chunkOf, sizeOf, goodChunk, goodSize}
 use Rattle.rules.specs.Reading.{GoodRequest}
 
 pub good-told : (g : Shape) (r : Request) → chunkOf r < g .c → goodSize g r ≡ true → GoodRequest g r
@@ -30,3 +30,8 @@ pub size-tested : (g : Shape) (r : Request) → GoodRequest g r → goodSize g r
 size-tested g (Write c size) h =
     let p = g .p * unitBytes in and-intro (leb 1 size) (leb size p) (le-leb 1 size (h .1)) (le-leb size p (h .2))
 size-tested g (Discard c) h = refl
+
+-- a good size is at most that of 16 units
+pub size-low : (g : Shape) (r : Request) → g .p ≤ maxChunkUnits → goodSize g r ≡ true → sizeOf r ≤ maxChunkBytes
+size-low g (Write i size) p h = let a = leb-true size (g .p * unitBytes) (and-right (leb 1 size) (leb size (g .p * unitBytes)) h) in omega arith
+size-low g (Discard i) p h = omega arith

@@ -44,13 +44,13 @@ module _ (kn : Known) (r : Request) (plan : List ℕ) (some : 1 ≤ mapWords (kn
     below-2 : (i : ℕ) → i < 2 → Rule kn r plan i
     below-2 = next 1 below-1 (rule1-told (kn .shape) plan e1)
 
-    module _ (e2 : rule2 (kn .unitFree) r xs ≡ true) where
+    module _ (e2 : rule2 (kn .freeUnits) r xs ≡ true) where
       below-3 : (i : ℕ) → i < 3 → Rule kn r plan i
-      below-3 = next 2 below-2 (rule2-told (kn .unitFree) xs r e2)
+      below-3 = next 2 below-2 (rule2-told (kn .freeUnits) xs r e2)
 
       module _ (e3 : rule3 g (kn .mapFree) r xs ≡ true) where
         below-4 : (i : ℕ) → i < 4 → Rule kn r plan i
-        below-4 = next 3 below-3 (rule3-told (kn .mapFree) xs g (kn .unitFree) r e2 e3)
+        below-4 = next 3 below-3 (rule3-told (kn .mapFree) xs g (kn .freeUnits) r e2 e3)
 
         module _ (e4 : rule4 (kn .chunkMapped) r xs ≡ true) where
           below-5 : (i : ℕ) → i < 5 → Rule kn r plan i
@@ -82,20 +82,20 @@ module _ (kn : Known) (r : Request) (plan : List ℕ) (some : 1 ≤ mapWords (kn
       by-3 : (b : Bool) → rule3 g (kn .mapFree) r xs ≡ b → Says (brokenRule kn r plan)
       by-3 true e = by-4 e (rule4 (kn .chunkMapped) r xs) refl
       by-3 false e = subst Says (broken-3 kn r plan e1 e2 e) (record {
-        broken = λ k. contradict (rule3-tested (kn .mapFree) xs g (kn .unitFree) r e2 k) e;
+        broken = λ k. contradict (rule3-tested (kn .mapFree) xs g (kn .freeUnits) r e2 k) e;
         lower = below-3;
       })
 
-    by-2 : (b : Bool) → rule2 (kn .unitFree) r xs ≡ b → Says (brokenRule kn r plan)
+    by-2 : (b : Bool) → rule2 (kn .freeUnits) r xs ≡ b → Says (brokenRule kn r plan)
     by-2 true e = by-3 e (rule3 g (kn .mapFree) r xs) refl
     by-2 false e =
-        subst Says (broken-2 kn r plan e1 e) (record { broken = λ k. contradict (rule2-tested (kn .unitFree) xs r k) e; lower = below-2 })
+        subst Says (broken-2 kn r plan e1 e) (record { broken = λ k. contradict (rule2-tested (kn .freeUnits) xs r k) e; lower = below-2 })
 
   says : Says (brokenRule kn r plan)
   says = by-1 (rule1 (kn .shape) plan) refl
     where
       by-1 : (b : Bool) → rule1 (kn .shape) plan ≡ b → Says (brokenRule kn r plan)
-      by-1 true e = by-2 e (rule2 (kn .unitFree) r (stepsOf plan)) refl
+      by-1 true e = by-2 e (rule2 (kn .freeUnits) r (stepsOf plan)) refl
       by-1 false e =
           subst Says (broken-1 kn r plan e) (record { broken = λ k. contradict (rule1-tested (kn .shape) plan k) e; lower = below-1 })
 

@@ -2,14 +2,14 @@
 use Prim.Native.Nat.{ℕ, zero, suc, _+_, _<_, _≤_}
 use mathlib.Core.Path.{_≡_, refl, sym, ap, _∙_, subst}
 use mathlib.Core.Logic.{_⊎_, inl, inr}
-use mathlib.Core.Bool.{Bool, true}
+use mathlib.Core.Bool.{Bool, true, _&&_}
 use mathlib.Core.List.{List, [], _∷_, _++_}
 use native.Mathlib.Omega.{arith}
-use lib.ListN.{length, length-append}
+use lib.ListN.{length, getD, length-append}
 use Rattle.search.specs.Search.{member, distinct}
 use Rattle.search.proofs.Bools.{contradict, is-false, and-left, and-right, and-intro, or-cases, or-left, or-right}
-use Rattle.search.proofs.Members.{member-nil, member-append}
-use Rattle.search.proofs.Distinct.{distinct-nil, distinct-append, distinct-later, distinct-apart, distinct-few, disjoint-intro}
+use Rattle.search.proofs.Members.{member-nil, member-head, member-tail, member-append}
+use Rattle.search.proofs.Distinct.{distinct-nil, distinct-append, distinct-later, distinct-apart, distinct-few, distinct-place, disjoint-intro}
 use Rattle.steps.specs.declared.Step.{Step}
 use Rattle.steps.specs.declared.Decoded.{Decoded}
 use Rattle.steps.specs.declared.Decoded.the-variants.{Whole, Malformed}
@@ -23,22 +23,43 @@ pub empty : {B : Type 0} (ys : List B) → length ys ≡ 0 → ys ≡ []
 empty [] h = refl
 empty (y ∷ ys) h = absurd (omega arith)
 
--- ---- one step at a place
+-- ---- what stands at a place
 
-pub at-one : (xs : List Step) (i : ℕ) (x y : Step) → At xs i x → At xs i y → x ≡ y
-at-one [] i x y h k = absurd h
-at-one (z ∷ xs) zero x y h k = sym h ∙ k
-at-one (z ∷ xs) (suc i) x y h k = at-one xs i x y h k
+module _ {A : Type 0} where
+  pub at-one : (xs : List A) (i : ℕ) (x y : A) → At xs i x → At xs i y → x ≡ y
+  at-one [] i x y h k = absurd h
+  at-one (z ∷ xs) zero x y h k = sym h ∙ k
+  at-one (z ∷ xs) (suc i) x y h k = at-one xs i x y h k
 
-pub at-below : (xs : List Step) (i : ℕ) (x : Step) → At xs i x → i < length xs
-at-below [] i x h = absurd h
-at-below (z ∷ xs) zero x h = omega arith
-at-below (z ∷ xs) (suc i) x h = omega (arith, at-below xs i x h)
+  pub at-below : (xs : List A) (i : ℕ) (x : A) → At xs i x → i < length xs
+  at-below [] i x h = absurd h
+  at-below (z ∷ xs) zero x h = omega arith
+  at-below (z ∷ xs) (suc i) x h = omega (arith, at-below xs i x h)
 
-pub at-some : (xs : List Step) (i : ℕ) → i < length xs → (x : Step) × At xs i x
-at-some [] i h = absurd (omega arith)
-at-some (z ∷ xs) zero h = (z, refl)
-at-some (z ∷ xs) (suc i) h = at-some xs i (omega arith)
+  pub at-some : (xs : List A) (i : ℕ) → i < length xs → (x : A) × At xs i x
+  at-some [] i h = absurd (omega arith)
+  at-some (z ∷ xs) zero h = (z, refl)
+  at-some (z ∷ xs) (suc i) h = at-some xs i (omega arith)
+
+  pub at-getD : (xs : List A) (i : ℕ) (x d : A) → At xs i x → getD xs i d ≡ x
+  at-getD [] i x d h = absurd h
+  at-getD (z ∷ xs) zero x d h = h
+  at-getD (z ∷ xs) (suc i) x d h = at-getD xs i x d h
+
+  pub getD-at : (xs : List A) (i : ℕ) (x d : A) → i < length xs → getD xs i d ≡ x → At xs i x
+  getD-at [] i x d l e = absurd (omega arith)
+  getD-at (z ∷ xs) zero x d l e = e
+  getD-at (z ∷ xs) (suc i) x d l e = getD-at xs i x d (omega arith) e
+
+-- a number at a place is in the list, and where none stands twice at one place only
+pub at-member : (us : List ℕ) (i u : ℕ) → At us i u → member u us ≡ true
+at-member [] i u h = absurd h
+at-member (x ∷ us) zero u h = member-head u x us (sym h)
+at-member (x ∷ us) (suc i) u h = member-tail u x us (at-member us i u h)
+
+pub at-place : (us : List ℕ) (i j u : ℕ) → distinct us ≡ true → At us i u → At us j u → i ≡ j
+at-place us i j u d h k =
+    distinct-place us d i j (at-below us i u h) (at-below us j u k) (at-getD us i u 0 h ∙ sym (at-getD us j u 0 k))
 
 -- ---- a test of every step
 
@@ -53,6 +74,11 @@ module _ (f : Step → Bool) where
   unfolding every
   every-intro [] h = refl
   every-intro (z ∷ xs) h = and-intro (f z) (every f xs) (h 0 z refl) (every-intro xs (λ i x k. h (suc i) x k))
+
+pub every-same : (f h : Step → Bool) (xs : List Step) → ((i : ℕ) (x : Step) → At xs i x → f x ≡ h x) → every f xs ≡ every h xs
+unfolding every
+every-same f h [] e = refl
+every-same f h (z ∷ xs) e = λ t. e 0 z refl t && every-same f h xs (λ i x k. e (suc i) x k) t
 
 -- ---- numbers drawn from the steps
 
@@ -231,3 +257,8 @@ module _ (plan : List ℕ) where
 pub each-place : (P : Step → Type 0) (xs : List Step) → ((i : ℕ) (x : Step) → At xs i x → P x) → Each P xs
 each-place P [] h = tt
 each-place P (x ∷ xs) h = (h 0 x refl, each-place P xs (λ i y k. h (suc i) y k))
+
+pub each-at : (P : Step → Type 0) (xs : List Step) → Each P xs → (i : ℕ) (x : Step) → At xs i x → P x
+each-at P [] h i x s = absurd s
+each-at P (y ∷ ys) h zero x s = subst P s (h .0)
+each-at P (y ∷ ys) h (suc i) x s = each-at P ys (h .1) i x s

@@ -1,21 +1,17 @@
 -- Rules 1 to 4 to read against what is computed, both ways. Rule 3 is compared where rule 2 is kept, rule 4 where rule 3 is.
-use Prim.Native.Nat.{ℕ, zero, suc, _+_, _-_, _*_, _%_, _<_, _≤_}
+use Prim.Native.Nat.{ℕ, _+_, _-_, _*_, _%_, _<_, _≤_}
 use mathlib.Core.Path.{_≡_, refl, sym, ap, _∙_, subst}
 use mathlib.Core.Logic.{⊎-elim}
 use mathlib.Core.Bool.{Bool, true, false, _&&_}
-use mathlib.Core.List.{List, [], _∷_, map}
+use mathlib.Core.List.{List, [], map}
 use native.Mathlib.Omega.{arith}
 use lib.ListN.{length}
 use lib.Dec.{eqb, ltb, leb}
 use borrow.Author.Tests.{eqb-true, eq-eqb, ltb-true, ltb-false, lt-ltb, le-ltb, leb-true, le-leb}
-use Rattle.search.specs.Search.{below, all, member, distinct, keep, firstOr}
-use Rattle.search.specs.Sets.{without}
-use Rattle.search.proofs.Bools.{contradict, either, is-false, cond-true, cond-false, and-left, and-right, and-intro, and-three, not-of-true, and-false-right}
-use Rattle.search.proofs.Members.{member-nil, member-cons, member-head, all-at, all-intro, first-member}
-use Rattle.search.proofs.Distinct.{distinct-later, distinct-apart}
-use Rattle.search.proofs.Ranges.{below-member, member-below, all-below-intro}
-use Rattle.search.proofs.Kept.{keep-none}
-use Rattle.search.proofs.Counting.{covers, unlisted-exactly}
+use Rattle.search.specs.Search.{below, all, member, firstOr}
+use Rattle.search.proofs.Bools.{contradict, either, cond-true, cond-false, and-left, and-right, and-intro, and-three}
+use Rattle.search.proofs.Members.{member-nil, all-at, all-intro, first-member}
+use Rattle.search.proofs.Ranges.{below-member, all-below-intro}
 use Rattle.layout.specs.declared.Shape.{Shape}
 use Rattle.layout.specs.Layout.{X, unitBytes, unitsFor, head, mapWords, afterHead}
 use Rattle.layout.proofs.Heads.{in-head, past-head, after-head}
@@ -27,12 +23,13 @@ use Rattle.steps.specs.declared.Decoded.{Decoded}
 use Rattle.steps.specs.declared.Decoded.the-variants.{Whole, Malformed}
 use Rattle.steps.specs.declared.Request.{Request}
 use Rattle.steps.specs.declared.Request.the-variants.{Write, Discard}
-use Rattle.steps.specs.Steps.{stepBytes, wholeSteps, decodeAt, needOf, wordOf}
-use Rattle.rules.specs.Rules.{maxSteps, valueBelow, sizeValue, wordInRange, inRange, wholeInRange, rule1, collect, pieceIn, unitIn, mapIn, wordIn, linkIn, linkedIn, pieces, units, maps, words, links, linked, unitOf, wordFor, planMap, onceEach, rule2, mapFits, mapsFit, rule3, linksAre, rule4}
+use Rattle.steps.specs.Steps.{stepBytes, wholeSteps, decodeAt, wordOf}
+use Rattle.rules.specs.Rules.{maxSteps, valueBelow, sizeValue, wordInRange, inRange, wholeInRange, rule1, pieceIn, mapIn, wordIn, linkIn, linkedIn, pieces, units, maps, words, links, linked, unitOf, wordFor, planMap, onceEach, every, dataFits, rule2, mapFits, mapsFit, rule3, linksAre, rule4}
 use Rattle.rules.specs.Reading.{At, ValueBelow, SizeValue, Bounded, Rule1, Pieces, Rule2, MapWords, Rule3, OneLink, Rule4}
 use Rattle.rules.proofs.Places.{at-one, every-at, every-intro, collect-in, collect-at, collect-once, collect-distinct, at-length, single-place, collect-none, collect-few}
-use Rattle.rules.proofs.StepLaws.{unitOf-none, unitOf-here, unitOf-later}
-use Rattle.rules.proofs.Facts.{once}
+use Rattle.rules.proofs.StepLaws.{unitOf-none}
+use Rattle.rules.proofs.Once.{once, once-tested, once-below, once-there}
+use Rattle.rules.proofs.Dealing.{in-one, here, piece-in, piece-at, unit-at, data-told, data-tested, rule2-pieces, rule2-data}
 
 -- ---- rule 1
 
@@ -117,26 +114,6 @@ module _ (g : Shape) (plan : List ℕ) where
 
 -- ---- the numbers that each kind of step gives
 
-in-one : (n m : ℕ) → member n (m ∷ []) ≡ true → n ≡ m
-in-one n m h = ⊎-elim (λ e. e) (λ k. contradict k (member-nil n)) (member-cons n m [] h)
-
-here : (n : ℕ) → member n (n ∷ []) ≡ true
-here n = member-head n n [] refl
-
-piece-in : (x : Step) (n : ℕ) → member n (pieceIn x) ≡ true → (u : ℕ) × (w : ℕ) × (x ≡ Data u n w)
-unfolding pieceIn
-piece-in (Data u j w) n m = (u, w, ap (λ (z : ℕ). Data u z w) (sym (in-one n j m)))
-piece-in (Map k j v) n m = contradict m (member-nil n)
-piece-in (Link i v) n m = contradict m (member-nil n)
-piece-in Fence n m = contradict m (member-nil n)
-
-unit-in : (x : Step) (n : ℕ) → member n (unitIn x) ≡ true → (j : ℕ) × (w : ℕ) × (x ≡ Data n j w)
-unfolding unitIn
-unit-in (Data u j w) n m = (j, w, ap (λ (z : ℕ). Data z j w) (sym (in-one n u m)))
-unit-in (Map k j v) n m = contradict m (member-nil n)
-unit-in (Link i v) n m = contradict m (member-nil n)
-unit-in Fence n m = contradict m (member-nil n)
-
 map-in : (x : Step) (n : ℕ) → member n (mapIn x) ≡ true → (j : ℕ) × (v : Value) × (x ≡ Map n j v)
 unfolding mapIn
 map-in (Data u j w) n m = contradict m (member-nil n)
@@ -166,12 +143,12 @@ linked-in (Link i v) n m = (i, v, refl, in-one n (wordOf v) m)
 linked-in Fence n m = contradict m (member-nil n)
 
 -- each gives at most one number
-few : (x : Step) → (length (pieceIn x) ≤ 1) × (length (unitIn x) ≤ 1) × (length (wordIn x) ≤ 1) × (length (linkIn x) ≤ 1)
-unfolding pieceIn unitIn wordIn linkIn
-few (Data u j w) = (omega arith, omega arith, omega arith, omega arith)
-few (Map k j v) = (omega arith, omega arith, omega arith, omega arith)
-few (Link i v) = (omega arith, omega arith, omega arith, omega arith)
-few Fence = (omega arith, omega arith, omega arith, omega arith)
+few : (x : Step) → (length (pieceIn x) ≤ 1) × (length (wordIn x) ≤ 1) × (length (linkIn x) ≤ 1)
+unfolding pieceIn wordIn linkIn
+few (Data u j w) = (omega arith, omega arith, omega arith)
+few (Map k j v) = (omega arith, omega arith, omega arith)
+few (Link i v) = (omega arith, omega arith, omega arith)
+few Fence = (omega arith, omega arith, omega arith)
 
 -- a step that gives a LINK's number is a LINK
 link-some : (x : Step) → 1 ≤ length (linkIn x) → (i : ℕ) × (v : Value) × (x ≡ Link i v)
@@ -185,73 +162,41 @@ one-link : (i : ℕ) (v : Value) → length (linkIn (Link i v)) ≡ 1
 unfolding linkIn
 one-link i v = refl
 
--- the DATA step of a piece, and the MAP step of a word
-piece-at : (xs : List Step) (j : ℕ) → member j (pieces xs) ≡ true → (i : ℕ) × (u : ℕ) × (w : ℕ) × At xs i (Data u j w)
-piece-at xs j m = let r = collect-at pieceIn xs j m in let d = piece-in (r .1) j (r .3) in (r .0, d .0, d .1, subst (At xs (r .0)) (d .2) (r .2))
-
+-- the MAP step of a word
 word-at : (xs : List Step) (j : ℕ) → member j (words xs) ≡ true → (i : ℕ) × (k : ℕ) × (v : Value) × At xs i (Map k j v)
 word-at xs j m = let r = collect-at wordIn xs j m in let d = word-in (r .1) j (r .3) in (r .0, d .0, d .1, subst (At xs (r .0)) (d .2) (r .2))
 
--- each number below n once and no other
-once-tested : (n : ℕ) (ys : List ℕ) → distinct ys ≡ true → ((y : ℕ) → member y ys ≡ true → y < n) → ((y : ℕ) → y < n → member y ys ≡ true)
-    → onceEach n ys ≡ true
-unfolding onceEach without
-once-tested n ys d b c =
-    let every-one : keep (without (λ u. true) ys) (below n) ≡ [] =
-    keep-none (without (λ u. true) ys) (below n) (λ u m. and-false-right true _ (not-of-true (member u ys) (c u (member-below u n m)))) in
-    let none : length (keep (without (λ u. true) ys) (below n)) ≡ 0 = ap length every-one in
-    let count = unlisted-exactly n ys d b in
-    and-intro (eqb (length ys) n && distinct ys) (all (λ y. ltb y n) ys)
-    (and-intro (eqb (length ys) n) (distinct ys) (eq-eqb (length ys) n (omega arith)) d)
-    (all-intro (λ y. ltb y n) ys (λ y m. lt-ltb y n (b y m)))
-
-once-below : (n : ℕ) (ys : List ℕ) → onceEach n ys ≡ true → (y : ℕ) → member y ys ≡ true → y < n
-once-below n ys h y m = ltb-true y n (all-at (λ j. ltb j n) ys (once n ys h .2) y m)
-
-once-there : (n : ℕ) (ys : List ℕ) → onceEach n ys ≡ true → (y : ℕ) → y < n → member y ys ≡ true
-once-there n ys h y l = let a = once n ys h in covers n ys (a .1) (a .0) (once-below n ys h) y l
-
 -- ---- rule 2
 
-module _ (free : ℕ → Bool) (xs : List Step) where
-  pieces-told : (k : ℕ) → (onceEach k (pieces xs) && distinct (units xs) && all free (units xs)) ≡ true → Pieces free k xs
-  unfolding pieceIn unitIn
-  pieces-told k h =
-      let a = and-three (onceEach k (pieces xs)) (distinct (units xs)) (all free (units xs)) h in
-      let p = once k (pieces xs) (a .0) in
+module _ (free : List ℕ) (xs : List Step) where
+  pieces-told : (k : ℕ) → onceEach k (pieces xs) ≡ true → every (dataFits free) xs ≡ true → Pieces free k xs
+  unfolding pieceIn
+  pieces-told k a f =
+      let p = once k (pieces xs) a in
       record {
-        each = λ j l. piece-at xs j (once-there k (pieces xs) (a .0) j l);
+        each = λ j l. piece-at xs j (once-there k (pieces xs) a j l);
         once = λ i i′ u u′ j w w′ s t. collect-once pieceIn xs i i′ (Data u j w) (Data u′ j w′) j (p .1) s t (here j) (here j);
-        no-other = λ i u j w s. once-below k (pieces xs) (a .0) j (collect-in pieceIn xs i (Data u j w) j s (here j));
-        different = λ i i′ u j j′ w w′ s t. collect-once unitIn xs i i′ (Data u j w) (Data u j′ w′) u (a .1) s t (here u) (here u);
-        free-units = λ i u j w s. all-at free (units xs) (a .2) u (collect-in unitIn xs i (Data u j w) u s (here u));
+        no-other = λ i u j w s. once-below k (pieces xs) a j (collect-in pieceIn xs i (Data u j w) j s (here j));
+        lowest = data-told free xs f;
       }
 
-  pieces-tested : (k : ℕ) → Pieces free k xs → (onceEach k (pieces xs) && distinct (units xs) && all free (units xs)) ≡ true
+  pieces-tested : (k : ℕ) → Pieces free k xs → (onceEach k (pieces xs) && every (dataFits free) xs) ≡ true
   unfolding pieceIn
   pieces-tested k h =
       let p = collect-distinct pieceIn (λ x. few x .0) xs (λ i j n x y s t m q.
       let d = piece-in x n m in
       let e = piece-in y n q in
       h .once i j (d .0) (e .0) n (d .1) (e .1) (subst (At xs i) (d .2) s) (subst (At xs j) (e .2) t)) in
-      let u = collect-distinct unitIn (λ x. few x .1) xs (λ i j n x y s t m q.
-      let d = unit-in x n m in
-      let e = unit-in y n q in
-      h .different i j n (d .0) (e .0) (d .1) (e .1) (subst (At xs i) (d .2) s) (subst (At xs j) (e .2) t)) in
-      and-intro (onceEach k (pieces xs) && distinct (units xs)) (all free (units xs))
-      (and-intro (onceEach k (pieces xs)) (distinct (units xs))
+      and-intro (onceEach k (pieces xs)) (every (dataFits free) xs)
       (once-tested k (pieces xs) p
       (λ j m. let r = piece-at xs j m in h .no-other (r .0) (r .1) j (r .2) (r .3))
-      (λ j l. let r = h .each j l in collect-in pieceIn xs (r .0) (Data (r .1) j (r .2)) j (r .3) (here j))) u)
-      (all-intro free (units xs) (λ n m.
-      let r = collect-at unitIn xs n m in
-      let d = unit-in (r .1) n (r .3) in
-      h .free-units (r .0) n (d .0) (d .1) (subst (At xs (r .0)) (d .2) (r .2))))
+      (λ j l. let r = h .each j l in collect-in pieceIn xs (r .0) (Data (r .1) j (r .2)) j (r .3) (here j)))
+      (data-tested free xs (h .lowest))
 
   pub rule2-told : (r : Request) → rule2 free r xs ≡ true → Rule2 free r xs
-  unfolding rule2
-  rule2-told (Write c size) h = pieces-told (unitsFor size) h
-  rule2-told (Discard c) h = λ i u j w s. let b = pieces-told 0 h .no-other i u j w s in omega arith
+  rule2-told (Write c size) h = pieces-told (unitsFor size) (rule2-pieces free xs (Write c size) h) (rule2-data free xs (Write c size) h)
+  rule2-told (Discard c) h = λ i u j w s.
+      let b = pieces-told 0 (rule2-pieces free xs (Discard c) h) (rule2-data free xs (Discard c) h) .no-other i u j w s in omega arith
 
   pub rule2-tested : (r : Request) → Rule2 free r xs → rule2 free r xs ≡ true
   unfolding rule2
@@ -261,26 +206,8 @@ module _ (free : ℕ → Bool) (xs : List Step) where
         each = λ j l. absurd (omega arith);
         once = λ i i′ u u′ j w w′ s t. absurd (h i u j w s);
         no-other = λ i u j w s. absurd (h i u j w s);
-        different = λ i i′ u j j′ w w′ s t. absurd (h i u j w s);
-        free-units = λ i u j w s. absurd (h i u j w s);
+        lowest = λ i u j w s. absurd (h i u j w s);
       })
-
--- the unit of a piece is that of its DATA step
-unitOf-skip : (z : Step) (xs : List Step) (j : ℕ) → member j (pieceIn z) ≡ false → unitOf j (z ∷ xs) ≡ unitOf j xs
-unfolding unitOf pieceIn
-unitOf-skip (Data u i w) xs j h = unitOf-later u i w j xs (λ e. contradict (ap (λ (n : ℕ). member j (n ∷ [])) (sym e) ∙ here j) h)
-unitOf-skip (Map k i v) xs j h = refl
-unitOf-skip (Link i v) xs j h = refl
-unitOf-skip Fence xs j h = refl
-
-unit-at : (xs : List Step) (i u j w : ℕ) → distinct (pieces xs) ≡ true → At xs i (Data u j w) → unitOf j xs ≡ u
-unfolding collect pieceIn
-unit-at [] i u j w d h = absurd h
-unit-at (z ∷ xs) zero u j w d h = ap (λ (s : Step). unitOf j (s ∷ xs)) h ∙ unitOf-here u j w j xs refl
-unit-at (z ∷ xs) (suc i) u j w d h =
-    unitOf-skip z xs j (is-false (member j (pieceIn z)) (λ m.
-    contradict (collect-in pieceIn xs i (Data u j w) j h (here j)) (distinct-apart j (pieceIn z) (pieces xs) d m)))
-    ∙ unit-at xs i u j w (distinct-later (pieceIn z) (pieces xs) d) h
 
 -- ---- rule 3
 
@@ -356,7 +283,7 @@ module _ (free : ℕ → Bool) (xs : List Step) where
       words-tested : (onceEach p (words xs) && mapsFit (planMap xs) free word xs) ≡ true
       unfolding wordIn
       words-tested =
-          let d = collect-distinct wordIn (λ x. few x .2) xs (λ i j n x y s t m q.
+          let d = collect-distinct wordIn (λ x. few x .1) xs (λ i j n x y s t m q.
           let a = word-in x n m in
           let b = word-in y n q in
           h .once i j (a .0) (b .0) n (a .1) (b .1) (subst (At xs i) (a .2) s) (subst (At xs j) (b .2) t)) in
@@ -366,21 +293,17 @@ module _ (free : ℕ → Bool) (xs : List Step) where
           (λ j l. let r = h .each j l in collect-in wordIn xs (r .0) (Map (r .1) j (r .2)) j (r .3) (here j)))
           (every-intro (mapFits (planMap xs) free word) xs fits)
 
-  module _ (g : Shape) (free-unit : ℕ → Bool) where
-    placed : (r : Request) → rule2 free-unit r xs ≡ true → onceEach (needOf r) (pieces xs) ≡ true
-    unfolding rule2
-    placed r h = and-three (onceEach (needOf r) (pieces xs)) (distinct (units xs)) (all free-unit (units xs)) h .0
-
-    pub rule3-told : (r : Request) → rule2 free-unit r xs ≡ true → rule3 g free r xs ≡ true → Rule3 g free r xs
+  module _ (g : Shape) (us : List ℕ) where
+    pub rule3-told : (r : Request) → rule2 us r xs ≡ true → rule3 g free r xs ≡ true → Rule3 g free r xs
     unfolding rule3
-    rule3-told (Write c size) r2 h = words-told (mapWords g) (head g) size (unitsFor size) (placed (Write c size) r2) h
-    rule3-told (Discard c) r2 h = λ i m j v s. let b = words-told 0 (head g) 0 0 (placed (Discard c) r2) h .no-other i m j v s in omega arith
+    rule3-told (Write c size) r2 h = words-told (mapWords g) (head g) size (unitsFor size) (rule2-pieces us xs (Write c size) r2) h
+    rule3-told (Discard c) r2 h = λ i m j v s. let b = words-told 0 (head g) 0 0 (rule2-pieces us xs (Discard c) r2) h .no-other i m j v s in omega arith
 
-    pub rule3-tested : (r : Request) → rule2 free-unit r xs ≡ true → Rule3 g free r xs → rule3 g free r xs ≡ true
+    pub rule3-tested : (r : Request) → rule2 us r xs ≡ true → Rule3 g free r xs → rule3 g free r xs ≡ true
     unfolding rule3
-    rule3-tested (Write c size) r2 h = words-tested (mapWords g) (head g) size (unitsFor size) (placed (Write c size) r2) h
+    rule3-tested (Write c size) r2 h = words-tested (mapWords g) (head g) size (unitsFor size) (rule2-pieces us xs (Write c size) r2) h
     rule3-tested (Discard c) r2 h =
-        words-tested 0 (head g) 0 0 (placed (Discard c) r2) (record {
+        words-tested 0 (head g) 0 0 (rule2-pieces us xs (Discard c) r2) (record {
           one-map = λ i i′ m m′ j j′ v v′ s t. absurd (h i m j v s);
           free-map = λ i m j v s. absurd (h i m j v s);
           each = λ j l. absurd (omega arith);
@@ -425,7 +348,7 @@ module _ (xs : List Step) where
   links-tested : (c w : ℕ) → OneLink c xs → ((i a : ℕ) (v : Value) → At xs i (Link a v) → wordOf v ≡ w) → linksAre 1 c w xs ≡ true
   unfolding linksAre linkIn linkedIn
   links-tested c w o h =
-      let few = collect-few linkIn (λ x. few x .3) xs (λ i j x y s t p q.
+      let few = collect-few linkIn (λ x. few x .2) xs (λ i j x y s t p q.
       let a = link-some x p in
       let b = link-some y q in
       o .alone i j (a .0) (b .0) (a .1) (b .1) (subst (At xs i) (a .2) s) (subst (At xs j) (b .2) t)) in

@@ -1,4 +1,3 @@
--- The rules as they are computed, the rules to read, and what only inner functions cite.
+-- The rules as they are computed, and the rules to read.
 pub mod Rules
 pub mod Reading
-pub mod Passes

@@ -22,11 +22,12 @@ use Rattle.rules.specs.declared.Checked.{Checked}
 use Rattle.rules.specs.declared.Checked.the-variants.{Accepted, Refused}
 use Rattle.rules.specs.Rules.{maxSteps, Known, knownOf}
 
--- x is the step at place i of a list of steps
-abbrev pub At : List Step → ℕ → Step → Type 0
-At [] i x = ⊥
-At (y ∷ ys) zero x = y ≡ x
-At (y ∷ ys) (suc i) x = At ys i x
+-- x stands at place i of a list, counted from 0
+module _ {A : Type 0} where
+  abbrev pub At : List A → ℕ → A → Type 0
+  At [] i x = ⊥
+  At (y ∷ ys) zero x = y ≡ x
+  At (y ∷ ys) (suc i) x = At ys i x
 
 -- ---- 1
 
@@ -56,17 +57,17 @@ pub record Rule1 (g : Shape) (plan : List ℕ) : Type 0 where
 
 -- ---- 2
 
-pub record Pieces (free : ℕ → Bool) (k : ℕ) (xs : List Step) : Type 0 where
+-- the steps of a write of k pieces; `free` has the free units, rising, the lowest at place 0
+pub record Pieces (free : List ℕ) (k : ℕ) (xs : List Step) : Type 0 where
   -- "pieces 0 to k-1 once each"
   pub each : (j : ℕ) → j < k → (i : ℕ) × (u : ℕ) × (w : ℕ) × At xs i (Data u j w)
   pub once : (i i′ u u′ j w w′ : ℕ) → At xs i (Data u j w) → At xs i′ (Data u′ j w′) → i ≡ i′
   -- "no other"
   pub no-other : (i u j w : ℕ) → At xs i (Data u j w) → j < k
-  -- "on different free units"
-  pub different : (i i′ u j j′ w w′ : ℕ) → At xs i (Data u j w) → At xs i′ (Data u j′ w′) → i ≡ i′
-  pub free-units : (i u j w : ℕ) → At xs i (Data u j w) → free u ≡ true
+  -- "piece j goes on the j-th lowest free unit, piece 0 on the lowest" (02, request 6)
+  pub lowest : (i u j w : ℕ) → At xs i (Data u j w) → At free j u
 
-abbrev pub Rule2 : (ℕ → Bool) → Request → List Step → Type 0
+abbrev pub Rule2 : List ℕ → Request → List Step → Type 0
 Rule2 free (Write c size) xs = Pieces free (unitsFor size) xs
 -- "Discard: no DATA."
 Rule2 free (Discard c) xs = (i u j w : ℕ) → At xs i (Data u j w) → ⊥
@@ -144,7 +145,7 @@ Rule5 (Discard c) false xs = xs ≡ []
 abbrev pub Rule : Known → Request → List ℕ → ℕ → Type 0
 Rule kn r plan zero = Unit {0}
 Rule kn r plan (suc zero) = Rule1 (kn .shape) plan
-Rule kn r plan (suc (suc zero)) = Rule2 (kn .unitFree) r (stepsOf plan)
+Rule kn r plan (suc (suc zero)) = Rule2 (kn .freeUnits) r (stepsOf plan)
 Rule kn r plan (suc (suc (suc zero))) = Rule3 (kn .shape) (kn .mapFree) r (stepsOf plan)
 Rule kn r plan (suc (suc (suc (suc zero)))) = Rule4 r (kn .chunkMapped) (stepsOf plan)
 Rule kn r plan (suc (suc (suc (suc (suc zero))))) = Rule5 r (kn .chunkMapped) (stepsOf plan)

@@ -2,17 +2,17 @@
 use Prim.Native.Nat.{ℕ, zero, suc, _*_, _%_}
 use mathlib.Core.Bool.{Bool, true, false, _&&_, cond}
 use mathlib.Core.List.{List, [], _∷_, _++_}
-use lib.ListN.{length}
+use lib.ListN.{length, getD}
 use lib.Dec.{eqb, ltb, leb}
 use Rattle.layout.specs.declared.Shape.{Shape}
 use Rattle.layout.specs.declared.Refusal.{Refusal}
 use Rattle.layout.specs.declared.Refusal.the-variants.{Range, Size, BadPlan}
 use Rattle.image.specs.Answers.{ifSound}
-use Rattle.search.specs.Search.{below, all, distinct, firstOr}
+use Rattle.search.specs.Search.{below, all, distinct, firstOr, keep}
 use Rattle.layout.specs.Layout.{X, isSize, head, mapWords, afterHead, shapeOf}
 use Rattle.image.specs.Soundness.{mapped}
 use Rattle.image.specs.Verdicts.{verdict}
-use Rattle.image.specs.Free.{freeUnit, freeMap}
+use Rattle.image.specs.Free.{freeUnits, freeMap}
 use Rattle.steps.specs.declared.Value.{Value}
 use Rattle.steps.specs.declared.Value.the-variants.{Number, Absent}
 use Rattle.steps.specs.declared.Step.{Step}
@@ -23,7 +23,7 @@ use Rattle.steps.specs.declared.Request.{Request}
 use Rattle.steps.specs.declared.Request.the-variants.{Write, Discard}
 use Rattle.rules.specs.declared.Checked.{Checked}
 use Rattle.rules.specs.declared.Checked.the-variants.{Accepted, Refused as Denied}
-use Rattle.steps.specs.Steps.{stepBytes, wholeSteps, decodeAt, stepsOf, chunkOf, sizeOf, needOf, wordOf}
+use Rattle.steps.specs.Steps.{stepBytes, wholeSteps, decodeAt, stepsOf, chunkOf, sizeOf, needOf, goodChunk, goodSize, wordOf}
 
 -- "at most 64"
 abbrev pub maxSteps : ℕ
@@ -172,15 +172,23 @@ rule1 g plan =
     eqb (length plan % stepBytes) 0 && leb (wholeSteps plan) maxSteps
     && all (λ i. wholeInRange g (decodeAt plan i)) (below (wholeSteps plan))
 
--- ---- rule 2: "Write: pieces 0 to k-1 once each, no other, on different free units. Discard: no DATA."
+-- ---- rule 2: "Write: pieces 0 to k-1 once each, no other", "piece j goes on the j-th lowest free unit, piece 0 on the lowest" (02, request 6).
+-- "Discard: no DATA."
 
 -- each number below n stands in the list once, and no other number
 unfoldable pub onceEach : ℕ → List ℕ → Bool
 onceEach n xs = eqb (length xs) n && distinct xs && all (λ j. ltb j n) xs
 
+-- a DATA step of piece j is on the unit at place j of the free units, rising, the lowest at place 0
+unfoldable pub dataFits : List ℕ → Step → Bool
+dataFits free (Data u j w) = ltb j (length free) && eqb (getD free j X) u
+dataFits free (Map k j v) = true
+dataFits free (Link i v) = true
+dataFits free Fence = true
+
 -- a discard needs no unit, so that no piece is left for a DATA step
-unfoldable pub rule2 : (ℕ → Bool) → Request → List Step → Bool
-rule2 free r xs = onceEach (needOf r) (pieces xs) && distinct (units xs) && all free (units xs)
+unfoldable pub rule2 : List ℕ → Request → List Step → Bool
+rule2 free r xs = onceEach (needOf r) (pieces xs) && every (dataFits free) xs
 
 -- ---- rule 3: "Write: all MAP steps on one free map, each word 0 to P-1 once; word j is piece j's unit for j below k, else X. Discard: no MAP."
 -- In edition 2 "MAP words run from 0 to P: word 0 holds .. the request's size (rule 3), and word j+1 is piece j's unit or X".
@@ -228,19 +236,21 @@ rule5 chunkMapped (Discard i) xs = cond chunkMapped (endsIn false xs) (eqb (leng
 
 -- ---- the lowest rule broken
 
--- What the checker knows of an image: its shape, which units and maps are free, and whether the request's chunk is mapped. No rule sees more of it.
+-- What is known of an image where a plan is made or checked: its shape, the free units, rising, which maps are free, and whether the request's chunk is
+-- mapped. No rule and no plan sees more of it.
 pub record Known : Type 0 where
   pub shape : Shape
-  pub unitFree : ℕ → Bool
+  pub freeUnits : List ℕ
   pub mapFree : ℕ → Bool
   pub chunkMapped : Bool
 
-abbrev pub known : Shape → (ℕ → Bool) → (ℕ → Bool) → Bool → Known
-known g units maps m = record { shape = g; unitFree = units; mapFree = maps; chunkMapped = m }
-
 -- "Old units counted free for the write that replaces them" is a way to lie: what is free is asked of the image as it is, the chunk's own units not among it
 abbrev pub knownOf : List ℕ → Request → Known
-knownOf s r = known (shapeOf s) (freeUnit s) (freeMap s) (mapped s (chunkOf r))
+knownOf s r = record { shape = shapeOf s; freeUnits = freeUnits s; mapFree = freeMap s; chunkMapped = mapped s (chunkOf r) }
+
+-- the same from a shape and any two sets: the free units are the first set's members below N, rising; which maps are free is asked of the second
+abbrev pub known : Shape → (ℕ → Bool) → (ℕ → Bool) → Bool → Known
+known g units maps m = record { shape = g; freeUnits = keep units (below (g .n)); mapFree = maps; chunkMapped = m }
 
 -- "lowest rule broken", or 0 where none is
 unfoldable pub brokenRule : Known → Request → List ℕ → ℕ
@@ -249,30 +259,22 @@ brokenRule kn r plan =
     let after4 : ℕ = cond (rule5 (kn .chunkMapped) r xs) 0 5 in
     let after3 : ℕ = cond (rule4 (kn .chunkMapped) r xs) after4 4 in
     let after2 : ℕ = cond (rule3 (kn .shape) (kn .mapFree) r xs) after3 3 in
-    let after1 : ℕ = cond (rule2 (kn .unitFree) r xs) after2 2 in
+    let after1 : ℕ = cond (rule2 (kn .freeUnits) r xs) after2 2 in
     cond (rule1 (kn .shape) plan) after1 1
 
 -- ---- the checker's answer
-
--- "A request is good if its chunk is below C and a write's size is 1 to P·4,096."
-abbrev pub goodChunk : Shape → Request → Bool
-goodChunk g r = ltb (chunkOf r) (g .c)
-
-abbrev pub goodSize : Shape → Request → Bool
-goodSize g (Write i size) = isSize g size
-goodSize g (Discard i) = true
 
 -- 11 BAD PLAN, "a plan rule broken", with the "lowest rule broken"
 abbrev pub broken : ℕ → Checked
 broken zero = Accepted
 broken (suc r) = Denied (BadPlan (suc r))
 
--- for a sound image: 7 "chunk not below C", 8 "compressed size 0 or above P·4,096", then 11. "Refusal 9 isn't given here."
-unfoldable pub judged : List ℕ → Request → List ℕ → Checked
-judged s r plan =
-    let rules = broken (brokenRule (knownOf s r) r plan) in
-    cond (goodChunk (shapeOf s) r) (cond (goodSize (shapeOf s) r) rules (Denied Size)) (Denied Range)
+-- of what is known, of an image or from any sets: 7 "chunk not below C", 8 "compressed size 0 or above P·4,096", then 11. "Refusal 9 isn't given here."
+unfoldable pub judged : Known → Request → List ℕ → Checked
+judged kn r plan =
+    let rules = broken (brokenRule kn r plan) in
+    cond (goodChunk (kn .shape) r) (cond (goodSize (kn .shape) r) rules (Denied Size)) (Denied Range)
 
 -- for any image: "Every entry point first applies 1 to 6 to its image"
 unfoldable pub checked : List ℕ → Request → List ℕ → Checked
-checked s r plan = ifSound (verdict s) Denied (judged s r plan)
+checked s r plan = ifSound (verdict s) Denied (judged (knownOf s r) r plan)
