@@ -1,0 +1,2 @@
+-- What only the checker's inner functions cite.
+pub mod Passes
