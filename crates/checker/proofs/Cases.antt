@@ -5,14 +5,14 @@ use mathlib.Core.Bool.{Bool, true, false, _&&_}
 use mathlib.Core.List.{List, [], _∷_, _++_}
 use lib.Dec.{eqb, ltb}
 use Rattle.words.specs.Words.{number, digits}
-use Rattle.search.specs.Search.{from, member, any, all, distinct}
+use Rattle.search.specs.Search.{from, keep, member, any, all, distinct}
 use Rattle.steps.specs.declared.Value.the-variants.{Number, Absent}
 use Rattle.steps.specs.declared.Step.{Step}
 use Rattle.steps.specs.declared.Step.the-variants.{Data, Map, Link, Fence}
 use Rattle.steps.specs.declared.Request.{Request}
 use Rattle.steps.specs.declared.Request.the-variants.{Write, Discard}
 use Rattle.steps.specs.Steps.{encode, encodeAll, gather, stepsOf, decodeAt, decodeFields}
-use Rattle.rules.specs.Rules.{known, brokenRule, rule1, rule2, rule3, rule4, rule5, onceEach, linksAre, collect, every, pieceIn, unitIn, mapIn, wordIn, linkIn, linkedIn, unitOf, planMap, wordInRange, mapFits, endsIn, beforeLink, afterLink}
+use Rattle.rules.specs.Rules.{known, brokenRule, rule1, rule2, rule3, rule4, rule5, onceEach, dataFits, linksAre, collect, every, pieceIn, unitIn, mapIn, wordIn, linkIn, linkedIn, unitOf, planMap, wordInRange, mapFits, endsIn, beforeLink, afterLink}
 use Rattle.layout.specs.Layout.{edition1, mapWords, afterHead}
 
 -- whether the chunk is mapped, the request, the plan, and the lowest rule broken
@@ -50,8 +50,12 @@ cases =
     -- a piece missing, and a unit twice
     ∷ write (Data 0 0 0 ∷ words ++ ends) 2
     ∷ write (Data 0 0 0 ∷ Data 0 1 0 ∷ words ++ ends) 2
-    -- words that are not the pieces' units
-    ∷ write (Data 1 0 0 ∷ Data 0 1 0 ∷ words ++ ends) 3
+    -- the lowest free units in another order, and other free units
+    ∷ write (Data 1 0 0 ∷ Data 0 1 0 ∷ Map 0 0 (Number 1) ∷ Map 0 1 (Number 0) ∷ Map 0 2 Absent ∷ Map 0 3 Absent ∷ ends) 2
+    ∷ write (Data 0 0 0 ∷ Data 2 1 0 ∷ Map 0 0 (Number 0) ∷ Map 0 1 (Number 2) ∷ Map 0 2 Absent ∷ Map 0 3 Absent ∷ ends) 2
+    -- words that are not the pieces' units, and two maps
+    ∷ write (Data 0 0 0 ∷ Data 1 1 0 ∷ Map 0 0 (Number 1) ∷ Map 0 1 (Number 0) ∷ Map 0 2 Absent ∷ Map 0 3 Absent ∷ ends) 3
+    ∷ write (Data 0 0 0 ∷ Data 1 1 0 ∷ Map 0 0 (Number 0) ∷ Map 1 1 (Number 1) ∷ Map 0 2 Absent ∷ Map 0 3 Absent ∷ ends) 3
     -- another chunk
     ∷ write (Data 0 0 0 ∷ Data 1 1 0 ∷ words ++ (Fence ∷ Link 3 (Number 0) ∷ Fence ∷ [])) 4
     -- no FENCE before LINK, none at the end, and DATA after LINK
@@ -71,5 +75,5 @@ allHold [] = true
 allHold (k ∷ ks) = holds k && allHold ks
 
 pub cases-hold : allHold cases ≡ true
-unfolding allHold every holds cases brokenRule rule1 rule2 rule3 rule4 rule5 onceEach linksAre collect pieceIn unitIn mapIn wordIn linkIn linkedIn unitOf planMap wordInRange mapWords afterHead mapFits endsIn beforeLink afterLink encodeAll encode digits number from stepsOf gather decodeAt decodeFields member any all distinct
+unfolding allHold every holds cases brokenRule rule1 rule2 rule3 rule4 rule5 onceEach dataFits keep linksAre collect pieceIn unitIn mapIn wordIn linkIn linkedIn unitOf planMap wordInRange mapWords afterHead mapFits endsIn beforeLink afterLink encodeAll encode digits number from stepsOf gather decodeAt decodeFields member any all distinct
 cases-hold = refl
