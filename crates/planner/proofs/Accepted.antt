@@ -6,16 +6,16 @@ use mathlib.Core.Logic.{⊎-elim}
 use mathlib.Core.Bool.{Bool, true, false, _&&_}
 use mathlib.Core.List.{List, [], _∷_, _++_, map, map-id, append-assoc, append-nil}
 use lib.ListN.{length, getD, take}
-use lib.Seq.{length-take-le}
+use lib.Seq.{length-take-le, getD-take}
 use lib.Dec.{eqb, ltb, leb}
 use borrow.Author.Tests.{lt-ltb, ltb-true, ltb-false, le-leb, leb-true, eq-eqb, eqb-true}
 use Rattle.search.specs.Search.{below, all, distinct, firstOr}
 use Rattle.search.proofs.Bools.{either, and-left, and-right, and-intro, cond-true, cond-false}
-use Rattle.search.proofs.Members.{all-at, all-take, all-first, member-getD}
-use Rattle.search.proofs.Kept.{all-kept}
-use Rattle.search.proofs.Distinct.{distinct-from, distinct-take}
+use Rattle.search.proofs.Members.{all-first}
+use Rattle.search.proofs.Kept.{member-keep, all-kept}
+use Rattle.search.proofs.Distinct.{distinct-from}
 use Rattle.search.proofs.Ranges.{all-below-intro, length-from}
-use Rattle.search.proofs.Mapping.{map-below-ext, map-places, first-constant}
+use Rattle.search.proofs.Mapping.{map-places, first-constant}
 use Rattle.layout.specs.declared.Shape.{Shape}
 use Rattle.layout.specs.Layout.{isSize, maxChunkBytes, X, unitBytes, unitsFor, head, mapWords, afterHead, shapeOf}
 use Rattle.layout.proofs.Heads.{in-head, past-head, after-ap}
@@ -24,7 +24,7 @@ use Rattle.layout.proofs.Limits.{fitting-limits, units-high, words-high, map-wo
 use Rattle.image.specs.Soundness.{mapped}
 use Rattle.image.specs.Claims.{Tested}
 use Rattle.image.specs.Free.{freeUnit, freeMap, freeUnits, freeMaps}
-use Rattle.image.proofs.Room.{freeUnit-below, freeMap-below, distinct-freeUnits, some-map-free}
+use Rattle.image.proofs.Room.{freeUnit-below, freeMap-below, some-map-free}
 use Rattle.steps.specs.declared.Value.{Value}
 use Rattle.steps.specs.declared.Value.the-variants.{Number, Absent}
 use Rattle.steps.specs.declared.Step.{Step}
@@ -33,16 +33,18 @@ use Rattle.steps.specs.declared.Decoded.{Decoded}
 use Rattle.steps.specs.declared.Decoded.the-variants.{Whole}
 use Rattle.steps.specs.declared.Request.{Request}
 use Rattle.steps.specs.declared.Request.the-variants.{Write, Discard}
-use Rattle.steps.specs.Steps.{stepBytes, needOf, wordOf, decodeAt, stepsOf, encodeAll}
+use Rattle.steps.specs.Steps.{stepBytes, needOf, goodChunk, goodSize, wordOf, decodeAt, stepsOf, encodeAll}
 use Rattle.steps.specs.Encodable.{Each, ValueFits, Fits}
 use Rattle.steps.proofs.Codec.{each-map, decoded, whole-encoded, steps-encoded, length-encoded}
 use Rattle.rules.specs.declared.Checked.the-variants.{Accepted as Accept}
-use Rattle.rules.specs.Rules.{maxSteps, collect, every, pieceIn, unitIn, mapIn, wordIn, linkIn, linkedIn, unitOf, wordFor, mapFits, planMap, endsIn, beforeLink, afterLink, onceEach, linksAre, sizeValue, valueBelow, wordInRange, inRange, wholeInRange, rule1, rule2, rule3, rule4, rule5, goodChunk, goodSize, checked, pieces, units, maps, words, links, linked}
+use Rattle.rules.specs.Rules.{maxSteps, collect, every, pieceIn, unitIn, mapIn, wordIn, linkIn, linkedIn, unitOf, wordFor, dataFits, mapFits, planMap, endsIn, beforeLink, afterLink, onceEach, linksAre, sizeValue, valueBelow, wordInRange, inRange, wholeInRange, rule1, rule2, rule3, rule4, rule5, knownOf, checked, pieces, units, maps, words, links, linked}
+use Rattle.rules.specs.Reading.{At}
+use Rattle.rules.proofs.Places.{at-getD, getD-at, at-below, at-member}
 use Rattle.rules.proofs.StepLaws.{word-small}
-use Rattle.checker.proofs.Accepting.{Unbroken, accepted}
+use Rattle.rules.proofs.Accepting.{Unbroken, accepted}
 use Rattle.planner.specs.Planner.{dataStep, dataSteps, unitValue, valueFor, mapStep, mapSteps, linkSteps, writeSteps, planOf}
 use Rattle.planner.proofs.Storing.{length-writeSteps}
-use Rattle.planner.proofs.StepLists.{passed-over, drawn, every-of, before-link, each-from, unit-here, unit-past, ends-in-fence}
+use Rattle.planner.proofs.StepLists.{passed-over, drawn, every-from, before-link, each-from, unit-here, unit-past, ends-in-fence}
 
 -- ---- rule 1: a list of steps in range, at most 64 of them, and its bytes
 
@@ -105,10 +107,10 @@ once-each : (n : ℕ) → onceEach n (below n) ≡ true
 unfolding onceEach
 once-each n = rw (length-from 0 n, eq-eqb n n refl, distinct-from 0 n, all-below-intro (λ j. ltb j n) n (λ j h. lt-ltb j n h))
 
--- ---- rules 1 to 5 for a write, on any free units and a free map
+-- ---- rules 1 to 5 for a write, on the lowest free units and a free map
 
 module _ (s : List ℕ) (i size : ℕ) (us : List ℕ) (m : ℕ) (l : Limits (shapeOf s)) (chunk : i < shapeOf s .c)
-    (need : length us ≡ unitsFor size) (few : unitsFor size ≤ shapeOf s .p) (free : all (freeUnit s) us ≡ true) (differ : distinct us ≡ true)
+    (need : length us ≡ unitsFor size) (few : unitsFor size ≤ shapeOf s .p) (lowest : (j : ℕ) → j < length us → At (freeUnits s) j (getD us j 0))
     (mfree : freeMap s m ≡ true) (sized : isSize (shapeOf s) size ≡ true) where
   abbrev g : Shape
   g = shapeOf s
@@ -131,7 +133,10 @@ module _ (s : List ℕ) (i size : ℕ) (us : List ℕ) (m : ℕ) (l : Limits (sh
   flat = refl
 
   unit-below : (j : ℕ) → j < k → getD us j 0 < g .n
-  unit-below j h = freeUnit-below s (getD us j 0) (all-at (freeUnit s) us free (getD us j 0) (member-getD us j h))
+  unfolding freeUnits
+  unit-below j h =
+      let m = at-member (freeUnits s) j (getD us j 0) (lowest j h) in
+      freeUnit-below s (getD us j 0) (member-keep (freeUnit s) (getD us j 0) (below (g .n)) m .1)
 
   -- unit word j of the map as it is stored
   word-unit : (j : ℕ) → j < k → wordOf (unitValue us j) ≡ getD us j 0
@@ -181,14 +186,16 @@ module _ (s : List ℕ) (i size : ℕ) (us : List ℕ) (m : ℕ) (l : Limits (sh
   pieces-are =
       rw flat
       (drawn (dataStep us) later pieceIn (λ j. j) (λ j. refl) (below k)
-      ∙ rw (passed-over (mapStep (head g) size m us) (linkSteps i m) (collect pieceIn) (λ j ys. refl) (below p), append-nil (map (λ (j : ℕ). j) (below k)), map-id (below k)))
+      ∙ rw (passed-over (mapStep (head g) size m us) (linkSteps i m) (collect pieceIn) (λ j ys. refl) (below p))
+      (append-nil (map (λ (j : ℕ). j) (below k)) ∙ map-id (below k)))
 
   units-are : units (writeSteps (head (shapeOf s)) size us m (mapWords (shapeOf s)) i) ≡ us
   unfolding collect unitIn
   units-are =
       rw flat
       (drawn (dataStep us) later unitIn (λ j. getD us j 0) (λ j. refl) (below k)
-      ∙ rw (passed-over (mapStep (head g) size m us) (linkSteps i m) (collect unitIn) (λ j ys. refl) (below p), append-nil (map (λ (j : ℕ). getD us j 0) (below k)), map-places))
+      ∙ rw (passed-over (mapStep (head g) size m us) (linkSteps i m) (collect unitIn) (λ j ys. refl) (below p))
+      (append-nil (map (λ (j : ℕ). getD us j 0) (below k)) ∙ map-places us))
 
   words-are : words xs ≡ below p
   unfolding collect wordIn
@@ -234,10 +241,6 @@ module _ (s : List ℕ) (i size : ℕ) (us : List ℕ) (m : ℕ) (l : Limits (sh
       ∙ sym (word-past j e))
       (either (ltb j k))
 
-  -- the units of the pieces, in their order
-  pieces-on : map (λ j. unitOf j (writeSteps (head (shapeOf s)) size us m (mapWords (shapeOf s)) i)) (below (length us)) ≡ us
-  pieces-on = map-below-ext (λ j. unitOf j xs) (λ j. getD us j 0) k (λ j h. unit-of j ∙ word-unit j h) ∙ map-places us
-
   -- word j of the map as it is stored
   word-of : (j : ℕ) → wordOf (valueFor (head g) size us j) ≡ wordFor g size xs j
   word-of j =
@@ -249,9 +252,9 @@ module _ (s : List ℕ) (i size : ℕ) (us : List ℕ) (m : ℕ) (l : Limits (sh
   stores =
       let test = mapFits m (freeMap s) (wordFor g size xs) in
       ap (every test) flat
-      ∙ every-of (dataStep us) later test (λ j. refl) (below k)
-      ∙ every-of (mapStep (head g) size m us) (linkSteps i m) test
-      (λ j. rw (eq-eqb m m refl, mfree, eq-eqb (wordOf (valueFor (head g) size us j)) (wordFor g size xs j) (word-of j))) (below p)
+      ∙ every-from (dataStep us) later test 0 k (λ j a b. refl)
+      ∙ every-from (mapStep (head g) size m us) (linkSteps i m) test 0 p
+      (λ j a b. rw (eq-eqb m m refl, mfree, eq-eqb (wordOf (valueFor (head g) size us j)) (wordFor g size xs j) (word-of j)))
 
   before : beforeLink xs ≡ (map (dataStep us) (below k) ++ map (mapStep (head g) size m us) (below p)) ++ (Fence ∷ [])
   unfolding beforeLink
@@ -268,9 +271,20 @@ module _ (s : List ℕ) (i size : ℕ) (us : List ℕ) (m : ℕ) (l : Limits (sh
       ∙ passed-over (dataStep us) later afterLink (λ j ys. refl) (below k)
       ∙ passed-over (mapStep (head g) size m us) (linkSteps i m) afterLink (λ j ys. refl) (below p)
 
-  two : rule2 (freeUnit s) (Write i size) xs ≡ true
+  -- each DATA step is on the free unit at its piece's place
+  dealt : every (dataFits (freeUnits s)) xs ≡ true
+  unfolding every dataFits
+  dealt =
+      let test = dataFits (freeUnits s) in
+      ap (every test) flat
+      ∙ every-from (dataStep us) later test 0 k (λ j a b.
+      let h = lowest j (omega arith) in
+      rw (lt-ltb j (length (freeUnits s)) (at-below (freeUnits s) j (getD us j 0) h), eq-eqb _ (getD us j 0) (at-getD (freeUnits s) j (getD us j 0) X h)))
+      ∙ every-from (mapStep (head g) size m us) (linkSteps i m) test 0 p (λ j a b. refl)
+
+  two : rule2 (freeUnits s) (Write i size) xs ≡ true
   unfolding rule2
-  two = rw (pieces-are, units-are, ← need, once-each k, differ, free)
+  two = rw (pieces-are, ← need, once-each k, dealt)
 
   three : rule3 g (freeMap s) (Write i size) xs ≡ true
   unfolding rule3
@@ -284,7 +298,9 @@ module _ (s : List ℕ) (i size : ℕ) (us : List ℕ) (m : ℕ) (l : Limits (sh
   unfolding rule5 endsIn collect unitIn mapIn
   five = rw (before, after, ends-in-fence false (map (dataStep us) (below k) ++ map (mapStep (head g) size m us) (below p)))
 
-  back : stepsOf (encodeAll (writeSteps (head (shapeOf s)) size us m (mapWords (shapeOf s)) i)) ≡ writeSteps (head (shapeOf s)) size us m (mapWords (shapeOf s)) i
+  back :
+      stepsOf (encodeAll (writeSteps (head (shapeOf s)) size us m (mapWords (shapeOf s)) i))
+      ≡ writeSteps (head (shapeOf s)) size us m (mapWords (shapeOf s)) i
   back = read-back g l xs in-range
 
   write-unbroken : Unbroken s (Write i size) (encodeAll (writeSteps (head (shapeOf s)) size us m (mapWords (shapeOf s)) i))
@@ -299,11 +315,11 @@ module _ (s : List ℕ) (i size : ℕ) (us : List ℕ) (m : ℕ) (l : Limits (sh
 -- ---- for a discard
 
 module _ (s : List ℕ) (i : ℕ) (l : Limits (shapeOf s)) (chunk : i < shapeOf s .c) where
-  discard-unbroken : Unbroken s (Discard i) (encodeAll (planOf s (Discard i)))
-  unfolding planOf rule2 rule3 rule4 rule5 linksAre onceEach every collect pieceIn unitIn mapIn wordIn linkIn linkedIn mapFits endsIn all distinct
+  discard-unbroken : Unbroken s (Discard i) (encodeAll (planOf (knownOf s (Discard i)) (Discard i)))
+  unfolding planOf rule2 rule3 rule4 rule5 linksAre onceEach every collect pieceIn unitIn mapIn wordIn linkIn linkedIn dataFits mapFits endsIn all distinct
   discard-unbroken = go (mapped s i) refl
     where
-      go : (b : Bool) → mapped s i ≡ b → Unbroken s (Discard i) (encodeAll (planOf s (Discard i)))
+      go : (b : Bool) → mapped s i ≡ b → Unbroken s (Discard i) (encodeAll (planOf (knownOf s (Discard i)) (Discard i)))
       go true e =
           let xs : List Step = Link i Absent ∷ Fence ∷ [] in
           let r : Each (InRange (shapeOf s)) xs = (rw (lt-ltb i (shapeOf s .c) chunk), (refl, tt)) in
@@ -326,6 +342,11 @@ module _ (s : List ℕ) (i : ℕ) (l : Limits (shapeOf s)) (chunk : i < shapeOf 
           })
 
 -- ---- on every sound image, for every good request with room
+
+-- the lowest free map
+pub lowest-free : (s : List ℕ) → Tested s → freeMap s (firstOr X (freeMaps s)) ≡ true
+unfolding freeMaps
+lowest-free s z = all-first (freeMap s) X (freeMaps s) (all-kept (freeMap s) (below (shapeOf s .m))) (some-map-free s (z .fitting))
 
 module _ (s : List ℕ) (i size : ℕ) (z : Tested s) (gc : goodChunk (shapeOf s) (Write i size) ≡ true) (gs : goodSize (shapeOf s) (Write i size) ≡ true)
     (room : unitsFor size ≤ length (freeUnits s)) where
@@ -350,47 +371,33 @@ module _ (s : List ℕ) (i size : ℕ) (z : Tested s) (gc : goodChunk (shapeOf s
       let high = leb-true size (p * unitBytes) (and-right (leb 1 size) (leb size (p * unitBytes)) gs) in
       omega arith
 
-  units-free : all (freeUnit s) us ≡ true
-  unfolding freeUnits
-  units-free = all-take (freeUnit s) (unitsFor size) (freeUnits s) (all-kept (freeUnit s) (below (shapeOf s .n)))
+  lowest : (j : ℕ) → j < length us → At (freeUnits s) j (getD us j 0)
+  lowest j h = getD-at (freeUnits s) j (getD us j 0) 0 (omega (arith, taken)) (sym (getD-take (unitsFor size) (freeUnits s) j 0 (omega (arith, taken))))
 
-  units-differ : distinct us ≡ true
-  units-differ = distinct-take (unitsFor size) (freeUnits s) (distinct-freeUnits s)
-
-  map-free : freeMap s m ≡ true
-  unfolding freeMaps
-  map-free = all-first (freeMap s) X (freeMaps s) (all-kept (freeMap s) (below (shapeOf s .m))) (some-map-free s (z .fitting))
-
-  plan-unbroken : Unbroken s (Write i size) (encodeAll (planOf s (Write i size)))
-  unfolding planOf
-  plan-unbroken = write-unbroken s i size us m l low taken few units-free units-differ map-free gs
+  plan-unbroken : Unbroken s (Write i size) (encodeAll (planOf (knownOf s (Write i size)) (Write i size)))
+  unfolding planOf freeMaps
+  plan-unbroken = write-unbroken s i size us m l low taken few lowest (lowest-free s z) gs
 
   -- the units and the map that the plan takes
-  pub plan-units : units (planOf s (Write i size)) ≡ take (unitsFor size) (freeUnits s)
-  unfolding planOf
-  plan-units = units-are s i size us m l low taken few units-free units-differ map-free gs
+  pub plan-units : units (planOf (knownOf s (Write i size)) (Write i size)) ≡ take (unitsFor size) (freeUnits s)
+  unfolding planOf freeMaps
+  plan-units = units-are s i size us m l low taken few lowest (lowest-free s z) gs
 
-  pub plan-map : planMap (planOf s (Write i size)) ≡ firstOr X (freeMaps s)
-  unfolding planOf
-  plan-map = map-is s i size us m l low taken few units-free units-differ map-free gs
-
-  -- piece by piece
-  pub plan-pieces : map (λ j. unitOf j (planOf s (Write i size))) (below (unitsFor size)) ≡ take (unitsFor size) (freeUnits s)
-  unfolding planOf
-  plan-pieces =
-      ap (λ (n : ℕ). map (λ j. unitOf j (planOf s (Write i size))) (below n)) (sym taken)
-      ∙ pieces-on s i size us m l low taken few units-free units-differ map-free gs
+  pub plan-map : planMap (planOf (knownOf s (Write i size)) (Write i size)) ≡ firstOr X (freeMaps s)
+  unfolding planOf freeMaps
+  plan-map = map-is s i size us m l low taken few lowest (lowest-free s z) gs
 
   -- its bytes are read back as its steps
-  pub plan-read : stepsOf (encodeAll (planOf s (Write i size))) ≡ planOf s (Write i size)
-  unfolding planOf
-  plan-read = back s i size us m l low taken few units-free units-differ map-free gs
+  pub plan-read : stepsOf (encodeAll (planOf (knownOf s (Write i size)) (Write i size))) ≡ planOf (knownOf s (Write i size)) (Write i size)
+  unfolding planOf freeMaps
+  plan-read = back s i size us m l low taken few lowest (lowest-free s z) gs
 
 pub planned-accepted :
     (s : List ℕ) (r : Request) → Tested s → goodChunk (shapeOf s) r ≡ true → goodSize (shapeOf s) r ≡ true → needOf r ≤ length (freeUnits s)
-    → checked s r (encodeAll (planOf s r)) ≡ Accept
+    → checked s r (encodeAll (planOf (knownOf s r) r)) ≡ Accept
 planned-accepted s (Write i size) z gc gs room =
-    accepted s (Write i size) (encodeAll (planOf s (Write i size))) (record { sound = z; chunk = gc; size = gs; rules = plan-unbroken s i size z gc gs room })
+    accepted s (Write i size) (encodeAll (planOf (knownOf s (Write i size)) (Write i size)))
+    (record { sound = z; chunk = gc; size = gs; rules = plan-unbroken s i size z gc gs room })
 planned-accepted s (Discard i) z gc gs room =
-    accepted s (Discard i) (encodeAll (planOf s (Discard i)))
+    accepted s (Discard i) (encodeAll (planOf (knownOf s (Discard i)) (Discard i)))
     (record { sound = z; chunk = gc; size = gs; rules = discard-unbroken s i (fitting-limits s (z .fitting)) (ltb-true i (shapeOf s .c) gc) })

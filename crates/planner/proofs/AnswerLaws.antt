@@ -2,152 +2,166 @@
 use Prim.Native.Nat.{ℕ, _+_, _*_, _≤_, _<_}
 use native.Mathlib.Omega.{arith}
 use mathlib.Core.Path.{_≡_, refl, ap, sym, subst, _∙_}
-use mathlib.Core.Bool.{Bool, true, false, cond}
-use mathlib.Core.List.{List, [], _∷_}
-use lib.ListN.{length, take}
-use lib.Seq.{length-take-le}
+use mathlib.Core.Bool.{Bool, true, false, _&&_, cond}
+use mathlib.Core.List.{List, [], _∷_, _++_}
+use lib.ListN.{length, getD, take, drop}
+use lib.Seq.{sets}
 use lib.Dec.{ltb}
 use borrow.Author.Needs.{zero≤}
-use borrow.Author.Tests.{lt-ltb, le-ltb, ltb-false}
-use Rattle.search.specs.Search.{firstOr}
-use Rattle.search.proofs.Members.{first-same}
-use Rattle.bitset.specs.Bits.{limit, members, bitSet}
+use borrow.Author.Tests.{lt-ltb, le-ltb}
+use Rattle.search.specs.Search.{below, firstOr}
+use Rattle.search.proofs.Members.{first-member}
+use Rattle.search.proofs.Ranges.{member-below}
+use Rattle.search.proofs.Kept.{member-keep}
+use Rattle.search.proofs.Filling.{taken-few, taken-enough, taken-whole}
+use Rattle.bitset.specs.Bits.{bitSet, inSet, membersBelow}
 use Rattle.layout.specs.declared.Shape.{Shape}
 use Rattle.layout.specs.declared.Refusal.{Refusal}
-use Rattle.layout.specs.declared.Refusal.the-variants.{Range, Size}
+use Rattle.layout.specs.declared.Refusal.the-variants.{Range, Size, NoRoom}
 use Rattle.layout.specs.Layout.{X, mapWords, shapeOf, unitsFor, head}
-use Rattle.layout.specs.Shaped.{On}
+use Rattle.layout.specs.Shaped.{Limits}
+use Rattle.layout.proofs.Limits.{units-high}
 use Rattle.image.specs.declared.Verdict.the-variants.{Passed, Refused as Unsound}
 use Rattle.image.specs.Soundness.{mapped}
 use Rattle.image.specs.Verdicts.{verdict}
-use Rattle.image.specs.Free.{freeUnit, freeMap, freeUnits, freeMaps}
+use Rattle.image.specs.Free.{freeUnit, freeUnits, freeMap}
 use Rattle.image.specs.Loading.{unitSetWords, mapSetWords}
-use Rattle.image.proofs.FreeSets.{unit-members, map-members}
-use Rattle.image.proofs.Room.{some-map-free}
 use Rattle.steps.specs.declared.Value.the-variants.{Absent}
 use Rattle.steps.specs.declared.Step.{Step}
 use Rattle.steps.specs.declared.Step.the-variants.{Link, Fence}
 use Rattle.steps.specs.declared.Request.{Request}
 use Rattle.steps.specs.declared.Request.the-variants.{Write, Discard}
-use Rattle.steps.specs.Steps.{chunkOf, needOf, putSteps}
+use Rattle.steps.specs.Steps.{stepBytes, chunkOf, goodSize, encodeAll, putSteps}
 use Rattle.steps.proofs.Encoding.{putSteps-cons, putSteps-front}
-use Rattle.rules.specs.Rules.{goodSize}
+use Rattle.rules.specs.Rules.{Known, known, knownOf}
+use Rattle.rules.proofs.Knowing.{known-is}
 use Rattle.planner.specs.declared.Planned.{Planned}
 use Rattle.planner.specs.declared.Planned.the-variants.{Steps, Refused}
-use Rattle.planner.specs.Planner.{writeSteps, planOf, ifFree, ifRoom, planIn, planAnswer, written, planOut}
-use Rattle.planner.specs.Planning.{writeOn, writeAnswer}
+use Rattle.planner.specs.Planner.{writeSteps, lowestMap, planOf, ifRoom, planGood, planIn, planAnswer, written, planOut}
+use Rattle.planner.specs.Planning.{Leaves}
 use Rattle.planner.proofs.Storing.{length-writeSteps}
-
--- an answer, and what it leaves in the lent bytes, where they are to be those of the answer a and the plan xs
-abbrev pub Plans : Planned → List Step → List ℕ → Planned → List ℕ → Type 0
-Plans a xs out answer after = (answer ≡ a) × (after ≡ written a xs out)
 
 -- the bytes follow from the answer
 pub left-by : (a : Planned) (xs : List Step) (out : List ℕ) (answer : Planned) (after : List ℕ) → answer ≡ a → after ≡ written answer xs out
-    → Plans a xs out answer after
+    → Leaves a xs out answer after
 left-by a xs out answer after e h = (e, h ∙ ap (λ (b : Planned). written b xs out) e)
 
--- ---- a write, on free sets
+leaves-same : (a b : Planned) (xs ys : List Step) (out : List ℕ) (answer : Planned) (after : List ℕ) → a ≡ b → xs ≡ ys → Leaves a xs out answer after
+    → Leaves b ys out answer after
+leaves-same a b xs ys out answer after ea ex h = (h .0 ∙ ea, h .1 ∙ (λ t. written (ea t) (ex t) out))
 
--- the bytes of its plan: k units were taken, and the first free map
-pub write-bytes :
-    (heads size : ℕ) (units maps taken out after : List ℕ) (k m words i : ℕ) → k ≤ length (members units) → 0 < length (members maps) → 16 * (k + words + 3) ≤ length out
-    → take k taken ≡ take k (members units)
-    → m ≡ firstOr (limit maps) (members maps)
-    → after ≡ putSteps out 0 (writeSteps heads size (take k taken) m words i)
-    → after ≡ written (Steps (k + words + 3)) (writeSteps heads size (take k (members units)) (firstOr X (members maps)) words i) out
-write-bytes heads size units maps taken out after k m words i hk hm ho et em ea =
-    let us = take k (members units) in
-    let xs = writeSteps heads size us (firstOr X (members maps)) words i in
-    let same : writeSteps heads size (take k taken) m words i ≡ xs = rw (et, em, first-same (limit maps) X (members maps) hm) in
-    let long : length xs ≡ k + words + 3 = length-writeSteps heads size us (firstOr X (members maps)) words i ∙ rw (length-take-le k (members units) hk) in
-    let front = putSteps-front out xs (rw long ho) in
-    ea ∙ ap (putSteps out 0) same ∙ (rw long at front)
+-- ---- the lowest of a set's members below a bound, where one place was lent for it
 
--- ---- a discard
+module _ (set : List ℕ) (end n : ℕ) (count : n ≡ length (take 1 (membersBelow set end))) where
+  pub none-lowest : n ≡ 0 → X ≡ firstOr X (membersBelow set end)
+  none-lowest = at (membersBelow set end) count
+    where
+      at : (xs : List ℕ) → n ≡ length (take 1 xs) → n ≡ 0 → X ≡ firstOr X xs
+      at [] e z = refl
+      at (x ∷ xs) e z = absurd (omega arith)
+
+  module _ (found : List ℕ) (stored : found ≡ sets (0 ∷ []) 0 (take 1 (membersBelow set end))) (some : n ≡ 0 → ⊥) where
+    at-lowest : (xs : List ℕ) → n ≡ length (take 1 xs) → found ≡ sets (0 ∷ []) 0 (take 1 xs) → (0 < length xs) × (getD found 0 0 ≡ firstOr X xs)
+    at-lowest [] e s = absurd (some e)
+    at-lowest (x ∷ xs) e s = (omega arith, rw s)
+
+    pub one-lowest : getD found 0 0 ≡ firstOr X (membersBelow set end)
+    one-lowest = at-lowest (membersBelow set end) count stored .1
+
+    pub one-below : getD found 0 0 < end
+    one-below =
+        let xs = membersBelow set end in
+        let first = first-member X xs (at-lowest xs count stored .0) in
+        rw one-lowest (member-below (firstOr X xs) end (member-keep (inSet set) (firstOr X xs) (below end) first .0))
+
+-- ---- a write of a good size, on what is known: 9 and 10
+
+-- the bytes of a plan that were stored from the first on
+pub stored-plan : (out after : List ℕ) (xs : List Step) (n : ℕ) → length xs ≡ n → stepBytes * n ≤ length out → after ≡ putSteps out 0 xs
+    → after ≡ written (Steps n) xs out
+stored-plan out after xs n long fits e = e ∙ putSteps-front out xs (rw long fits) ∙ ap (λ (k : ℕ). encodeAll xs ++ drop (stepBytes * k) out) long
+
+module _ (kn : Known) (i size : ℕ) (out : List ℕ) where
+  abbrev AsGood : Planned → List ℕ → Type 0
+  AsGood answer after = Leaves (planGood kn (Write i size) (length out)) (planOf kn (Write i size)) out answer after
+
+  -- n free units were found, and stored as far as there were places
+  module _ (chosen found : List ℕ) (n : ℕ) (places : length chosen ≡ unitsFor size) (count : n ≡ length (take (length chosen) (kn .freeUnits)))
+      (stored : found ≡ sets chosen 0 (take (length chosen) (kn .freeUnits))) where
+    pub few-units : n < length chosen → AsGood (Refused (NoRoom n)) out
+    few-units h =
+        let all = taken-few chosen found (kn .freeUnits) n count stored h in
+        left-by _ _ _ (Refused (NoRoom n)) _ (rw (← all, lt-ltb n (unitsFor size) (omega arith))) refl
+
+    module _ (h : length chosen ≤ n) where
+      enough : length chosen ≤ length (kn .freeUnits)
+      enough = taken-enough chosen found (kn .freeUnits) n count stored h
+
+      pub no-map : (m : ℕ) → m ≡ lowestMap kn → kn .shape .m ≤ m → AsGood (Refused (NoRoom 0)) out
+      no-map m em l = left-by _ _ _ (Refused (NoRoom 0)) _ (rw (← places, le-ltb _ _ enough, ← em, le-ltb m (kn .shape .m) l)) refl
+
+      chosen-are : found ≡ take (unitsFor size) (kn .freeUnits)
+      chosen-are = taken-whole chosen found (kn .freeUnits) n count stored h ∙ ap (λ (k : ℕ). take k (kn .freeUnits)) places
+
+      module _ (m : ℕ) (em : m ≡ lowestMap kn) (l : m < kn .shape .m) where
+        same-plan : writeSteps (head (kn .shape)) size found m (mapWords (kn .shape)) i ≡ planOf kn (Write i size)
+        unfolding planOf
+        same-plan = λ t. writeSteps (head (kn .shape)) size (chosen-are t) (em t) (mapWords (kn .shape)) i
+
+        same-answer : ifRoom (length out) (length found + mapWords (kn .shape) + 3) ≡ planGood kn (Write i size) (length out)
+        same-answer =
+            let g = kn .shape in
+            let long = sym (length-writeSteps (head g) size found m (mapWords g) i) ∙ ap length same-plan in
+            let units = le-ltb (length (kn .freeUnits)) (unitsFor size) (omega (arith, enough)) in
+            rw (units, ← em, lt-ltb m (g .m) l, ← long)
+
+        pub on-lowest :
+            (answer : Planned) (after : List ℕ)
+            → Leaves (ifRoom (length out) (length found + mapWords (kn .shape) + 3)) (writeSteps (head (kn .shape)) size found m (mapWords (kn .shape)) i) out
+            answer after
+            → AsGood answer after
+        on-lowest answer after w = leaves-same _ _ _ _ out answer after same-answer same-plan w
+
+-- ---- a discard, on what is known
 
 pub discard-bytes :
     (out after : List ℕ) (i : ℕ) → 32 ≤ length out → after ≡ putSteps (putSteps out 0 (Link i Absent ∷ [])) 1 (Fence ∷ [])
     → after ≡ written (Steps 2) (Link i Absent ∷ Fence ∷ []) out
-discard-bytes out after i h e = e ∙ putSteps-cons out 0 (Link i Absent) (Fence ∷ []) ∙ putSteps-front out (Link i Absent ∷ Fence ∷ []) h
+discard-bytes out after i h e = stored-plan out after (Link i Absent ∷ Fence ∷ []) 2 refl h (e ∙ putSteps-cons out 0 (Link i Absent) (Fence ∷ []))
 
--- ---- on a sound image: the request's tests
-
-module _ (s : List ℕ) (r : Request) (out : List ℕ) (g : Shape) (e : g ≡ shapeOf s) where
-  pub out-of-range : g .c ≤ chunkOf r → Plans (planIn s r (length out)) (planOf s r) out (Refused Range) out
-  unfolding planIn
-  out-of-range h = left-by _ _ _ (Refused Range) _ (rw (← e, le-ltb (chunkOf r) (g .c) h)) refl
-
-  module _ (low : chunkOf r < g .c) where
-    pub bad-size : goodSize g r ≡ false → Plans (planIn s r (length out)) (planOf s r) out (Refused Size) out
-    unfolding planIn
-    bad-size z = left-by _ _ _ (Refused Size) _ (rw (← e, lt-ltb (chunkOf r) (g .c) low, z)) refl
-
-    good-request : goodSize g r ≡ true → ifFree (length (freeUnits s)) (needOf r) (ifRoom (length out) (length (planOf s r))) ≡ planIn s r (length out)
-    unfolding planIn
-    good-request z =
-        let c : ltb (chunkOf r) (shapeOf s .c) ≡ true = subst (λ (q : Shape). ltb (chunkOf r) (q .c) ≡ true) e (lt-ltb (chunkOf r) (g .c) low) in
-        let d : goodSize (shapeOf s) r ≡ true = subst (λ (q : Shape). goodSize q r ≡ true) e z in
-        rw (c, d)
-
--- ---- and the plans themselves
-
--- a write's number of steps matters only where there are units enough
-write-counted :
-    (s : List ℕ) (i size room : ℕ)
-    → ifFree (length (freeUnits s)) (unitsFor size) (ifRoom room (unitsFor size + mapWords (shapeOf s) + 3))
-    ≡ ifFree (length (freeUnits s)) (unitsFor size) (ifRoom room (length (planOf s (Write i size))))
+pub discard-good :
+    (kn : Known) (i : ℕ) (out : List ℕ) (answer : Planned) (after : List ℕ)
+    → Leaves (ifRoom (length out) (cond (kn .chunkMapped) 2 0)) (cond (kn .chunkMapped) (Link i Absent ∷ Fence ∷ []) []) out answer after
+    → Leaves (planGood kn (Discard i) (length out)) (planOf kn (Discard i)) out answer after
 unfolding planOf
-write-counted s i size room = go (ltb (length (freeUnits s)) (unitsFor size)) refl
+discard-good kn i out answer after h = rw (le-ltb (length (kn .freeUnits)) 0 zero≤) (either (kn .chunkMapped) h)
   where
-    go : (b : Bool) → ltb (length (freeUnits s)) (unitsFor size) ≡ b
-        → ifFree (length (freeUnits s)) (unitsFor size) (ifRoom room (unitsFor size + mapWords (shapeOf s) + 3))
-        ≡ ifFree (length (freeUnits s)) (unitsFor size) (ifRoom room (length (planOf s (Write i size))))
-    go true e = rw e
-    go false e =
-        let us = take (unitsFor size) (freeUnits s) in
-        let long = length-writeSteps (head (shapeOf s)) size us (firstOr X (freeMaps s)) (mapWords (shapeOf s)) i in
-        let enough = length-take-le (unitsFor size) (freeUnits s) (ltb-false _ _ e) in
-        rw (long, enough)
+    either : (b : Bool) → Leaves (ifRoom (length out) (cond b 2 0)) (cond b (Link i Absent ∷ Fence ∷ []) []) out answer after
+        → Leaves (ifRoom (length out) (length (cond b (Link i Absent ∷ Fence ∷ []) []))) (cond b (Link i Absent ∷ Fence ∷ []) []) out answer after
+    either true h = h
+    either false h = h
 
-module _ (s : List ℕ) (g : Shape) (o : On g s) where
-  -- what is planned on the free sets of an image is planned on the image
-  pub write-planned :
-      (heads words : ℕ) (units maps : List ℕ) (i size : ℕ) (out : List ℕ) (answer : Planned) (after : List ℕ)
-      → heads ≡ head g
-      → words ≡ mapWords g
-      → units ≡ bitSet (freeUnit s) unitSetWords
-      → maps ≡ bitSet (freeMap s) mapSetWords
-      → i < g .c
-      → goodSize g (Write i size) ≡ true
-      → Plans (writeAnswer units words size (length out)) (writeOn heads units maps words i size) out answer after
-      → Plans (planIn s (Write i size) (length out)) (planOf s (Write i size)) out answer after
-  unfolding planOf
-  write-planned heads words units maps i size out answer after eh ew eu em low z h =
-      let u : members units ≡ freeUnits s = ap members eu ∙ unit-members s (o .fitting) in
-      let m : members maps ≡ freeMaps s = ap members em ∙ map-members s (o .fitting) in
-      let good = good-request s (Write i size) out g (sym (o .shape)) low z in
-      let same = write-counted s i size (length out) ∙ good in
-      let hs : heads ≡ head (shapeOf s) = eh ∙ ap (λ (q : Shape). head q) (sym (o .shape)) in
-      let ws : words ≡ mapWords (shapeOf s) = ew ∙ ap mapWords (sym (o .shape)) in
-      rw (← same, ← u, ← m, ← hs, ← ws) h
+-- ---- any request, on what is known: 7 and 8
 
-  pub some-map : (maps : List ℕ) → maps ≡ bitSet (freeMap s) mapSetWords → 0 < length (members maps)
-  some-map maps em = let m = ap (λ (l : List ℕ). length (members l)) em in let k = ap length (map-members s (o .fitting)) in omega (arith, some-map-free s (o .fitting))
+module _ (kn : Known) (r : Request) (out : List ℕ) where
+  abbrev Answers : Planned → List ℕ → Type 0
+  Answers answer after = Leaves (planIn kn r (length out)) (planOf kn r) out answer after
 
-  pub discard-planned :
-      (isMapped : Bool) (i : ℕ) (out : List ℕ) (answer : Planned) (after : List ℕ) → isMapped ≡ mapped s i → i < g .c
-      → Plans (ifRoom (length out) (cond isMapped 2 0)) (cond isMapped (Link i Absent ∷ Fence ∷ []) []) out answer after
-      → Plans (planIn s (Discard i) (length out)) (planOf s (Discard i)) out answer after
-  unfolding planOf
-  discard-planned isMapped i out answer after e low h =
-      let good = good-request s (Discard i) out g (sym (o .shape)) low refl in
-      rw (← good, le-ltb (length (freeUnits s)) 0 zero≤, ← e) (either isMapped h)
-    where
-      either : (b : Bool) → Plans (ifRoom (length out) (cond b 2 0)) (cond b (Link i Absent ∷ Fence ∷ []) []) out answer after
-          → Plans (ifRoom (length out) (length (cond b (Link i Absent ∷ Fence ∷ []) []))) (cond b (Link i Absent ∷ Fence ∷ []) []) out answer after
-      either true h = h
-      either false h = h
+  pub out-of-range : kn .shape .c ≤ chunkOf r → Answers (Refused Range) out
+  unfolding planIn
+  out-of-range h = left-by _ _ _ (Refused Range) _ (rw (le-ltb (chunkOf r) (kn .shape .c) h)) refl
+
+  module _ (low : chunkOf r < kn .shape .c) where
+    pub bad-size : goodSize (kn .shape) r ≡ false → Answers (Refused Size) out
+    unfolding planIn
+    bad-size z = left-by _ _ _ (Refused Size) _ (rw (lt-ltb (chunkOf r) (kn .shape .c) low, z)) refl
+
+    pub good-request : goodSize (kn .shape) r ≡ true → (answer : Planned) (after : List ℕ)
+        → Leaves (planGood kn r (length out)) (planOf kn r) out answer after
+        → Answers answer after
+    unfolding planIn
+    good-request z answer after h =
+        leaves-same _ _ _ _ out answer after (rw (lt-ltb (chunkOf r) (kn .shape .c) low, z)) refl h
 
 -- ---- on any image, by what load said of it
 
@@ -155,6 +169,39 @@ module _ (s : List ℕ) (r : Request) (out : List ℕ) where
   pub plan-refused : (x : Refusal) → verdict s ≡ Unsound x → (Refused x ≡ planAnswer s r (length out)) × (out ≡ planOut s r out)
   plan-refused x e = (rw e, rw e)
 
-  pub plan-passed : verdict s ≡ Passed → (answer : Planned) (after : List ℕ) → Plans (planIn s r (length out)) (planOf s r) out answer after
+  plan-passed : verdict s ≡ Passed → (answer : Planned) (after : List ℕ) → Answers (knownOf s r) r out answer after
       → (answer ≡ planAnswer s r (length out)) × (after ≡ planOut s r out)
   plan-passed e answer after h = rw e h
+
+module _ (s : List ℕ) (g : Shape) (passed : verdict s ≡ Passed) (shape : g ≡ shapeOf s) (out : List ℕ) (answer : Planned) (after : List ℕ) where
+  -- the sets that load found are the image's
+  pub write-passed :
+      (units maps : List ℕ) (i size : ℕ) → Limits g → units ≡ bitSet (freeUnit s) unitSetWords → maps ≡ bitSet (freeMap s) mapSetWords
+      → ((m : Bool) → Answers (known g (inSet units) (inSet maps) m) (Write i size) out answer after)
+      → (answer ≡ planAnswer s (Write i size) (length out)) × (after ≡ planOut s (Write i size) out)
+  write-passed units maps i size l eu em h =
+      let n : g .n ≤ 64 * unitSetWords = units-high g l in
+      let m : g .m ≤ 64 * mapSetWords = omega (arith, l .m-high, l .c-high) in
+      let same : known g (inSet units) (inSet maps) (mapped s i) ≡ knownOf s (Write i size) =
+      ap (λ (q : Shape). known q (inSet units) (inSet maps) (mapped s i)) shape
+      ∙ known-is s (Write i size) units maps (rw (← shape) n) (rw (← shape) m) eu em in
+      plan-passed s (Write i size) out passed answer after (subst (λ (kn : Known). Answers kn (Write i size) out answer after) same (h (mapped s i)))
+
+  -- of a chunk that is not below C nobody asks whether it is mapped
+  pub discard-passed :
+      (i : ℕ) (b : Bool) → b ≡ (ltb i (g .c) && mapped s i)
+      → ((units maps : ℕ → Bool) → Answers (known g units maps b) (Discard i) out answer after)
+      → (answer ≡ planAnswer s (Discard i) (length out)) × (after ≡ planOut s (Discard i) out)
+  unfolding planIn freeUnits
+  discard-passed i b eb h = plan-passed s (Discard i) out passed answer after (at (ltb i (shapeOf s .c)) refl)
+    where
+      here : Answers (known (shapeOf s) (freeUnit s) (freeMap s) (ltb i (shapeOf s .c) && mapped s i)) (Discard i) out answer after
+      here =
+          let told : b ≡ (ltb i (shapeOf s .c) && mapped s i) = eb ∙ ap (λ (q : Shape). ltb i (q .c) && mapped s i) shape in
+          let same : known g (freeUnit s) (freeMap s) b ≡ known (shapeOf s) (freeUnit s) (freeMap s) (ltb i (shapeOf s .c) && mapped s i) =
+          λ t. known (shape t) (freeUnit s) (freeMap s) (told t) in
+          subst (λ (kn : Known). Answers kn (Discard i) out answer after) same (h (freeUnit s) (freeMap s))
+
+      at : (t : Bool) → ltb i (shapeOf s .c) ≡ t → Answers (knownOf s (Discard i)) (Discard i) out answer after
+      at true e = rw e (rw e at here)
+      at false e = rw e (rw e at here)

@@ -26,12 +26,13 @@ module _ (f : ℕ → Step) (t : List Step) where
   drawn sel h e [] = refl
   drawn sel h e (j ∷ js) = rw (e j) (ap (λ (l : List ℕ). h j ∷ l) (drawn sel h e js))
 
-  pub every-of : (test : Step → Bool) → ((j : ℕ) → test (f j) ≡ true) → (js : List ℕ) → every test (map f js ++ t) ≡ every test t
-  unfolding every
-  every-of test e [] = refl
-  every-of test e (j ∷ js) = rw (e j) (every-of test e js)
+  pub every-from : (test : Step → Bool) (a n : ℕ) → ((j : ℕ) → a ≤ j → j < a + n → test (f j) ≡ true) → every test (map f (from a n) ++ t) ≡ every test t
+  unfolding every from
+  every-from test a zero e = refl
+  every-from test a (suc n) e = rw (e a (omega arith) (omega arith)) (every-from test (suc a) n (λ j p q. e j (omega arith) (omega arith)))
 
-  pub before-link : ((j : ℕ) (ys : List Step) → beforeLink (f j ∷ ys) ≡ f j ∷ beforeLink ys) → (js : List ℕ) → beforeLink (map f js ++ t) ≡ map f js ++ beforeLink t
+  pub before-link : ((j : ℕ) (ys : List Step) → beforeLink (f j ∷ ys) ≡ f j ∷ beforeLink ys) → (js : List ℕ)
+      → beforeLink (map f js ++ t) ≡ map f js ++ beforeLink t
   before-link h [] = refl
   before-link h (j ∷ js) = h j (map f js ++ t) ∙ ap (λ (l : List Step). f j ∷ l) (before-link h js)
 

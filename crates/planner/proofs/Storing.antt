@@ -4,19 +4,16 @@ use native.Mathlib.Nat.{add-assoc, add-zero, sub-zero}
 use native.Mathlib.Omega.{arith}
 use mathlib.Core.Path.{_≡_, ap, sym, _∙_}
 use mathlib.Core.List.{List, [], _∷_, _++_, map}
-use lib.ListN.{length, getD, take, drop, replicate, length-append}
-use lib.Seq.{sets, getD-take, length-take-le, take-at}
-use borrow.Author.Tests.{lt-ltb, le-ltb}
-use Rattle.words.proofs.Laws.{sets-front}
+use lib.ListN.{length, length-append}
 use Rattle.search.specs.Search.{from, below}
 use Rattle.search.proofs.Ranges.{from-next, from-end}
 use Rattle.search.proofs.Mapping.{length-map-from}
-use Rattle.steps.specs.declared.Value.the-variants.{Number, Absent}
+use Rattle.steps.specs.declared.Value.the-variants.{Number}
 use Rattle.steps.specs.declared.Step.{Step}
-use Rattle.steps.specs.declared.Step.the-variants.{Data, Link, Fence}
+use Rattle.steps.specs.declared.Step.the-variants.{Link, Fence}
 use Rattle.steps.specs.Steps.{putSteps}
 use Rattle.steps.proofs.Encoding.{putSteps-none, putSteps-cons, putSteps-append}
-use Rattle.planner.specs.Planner.{dataStep, dataSteps, unitValue, mapStep, mapSteps, linkSteps, writeSteps}
+use Rattle.planner.specs.Planner.{dataStep, dataSteps, mapStep, mapSteps, linkSteps, writeSteps}
 
 -- ---- a loop that stores step f j in turn j, from step `at` on
 
@@ -33,27 +30,6 @@ module _ (f : ℕ → Step) (out : List ℕ) (at n : ℕ) where
 
     pub steps-end : n ≤ j → putSteps out (at + j) (map f (from j (n - j))) ≡ out
     steps-end h = rw (from-end j n h) (putSteps-none out (at + j))
-
--- ---- what a turn stores, of the first k of the units
-
-module _ (us : List ℕ) (k : ℕ) (h : k ≤ length us) (j : ℕ) where
-  taken : length (take k us) ≡ k
-  taken = length-take-le k us h
-
-  pub data-here : j < k → Data (getD us j 0) j 0 ≡ dataStep (take k us) j
-  data-here l = rw (getD-take k us j 0 l)
-
-  pub value-unit : j < k → Number (getD us j 0) ≡ unitValue (take k us) j
-  unfolding unitValue
-  value-unit l = rw (taken, lt-ltb j k l, getD-take k us j 0 l)
-
-  pub value-past : k ≤ j → Absent ≡ unitValue (take k us) j
-  unfolding unitValue
-  value-past l = rw (taken, le-ltb j k l)
-
-pub data-are : (us : List ℕ) (k : ℕ) → k ≤ length us → dataSteps (take k us) ≡ map (dataStep (take k us)) (below k)
-unfolding dataSteps
-data-are us k h = ap (λ (n : ℕ). map (dataStep (take k us)) (below n)) (length-take-le k us h)
 
 -- ---- the parts of a write's plan
 
@@ -84,21 +60,15 @@ module _ (out : List ℕ) where
       ∙ putSteps-cons out at Fence (Link i (Number m) ∷ Fence ∷ [])
 
   pub write-stored :
-      (heads size : ℕ) (us : List ℕ) (k m words i : ℕ) → length us ≡ k
-      → putSteps (putSteps (putSteps out 0 (dataSteps us)) k (mapSteps heads size m us words)) (k + words) (linkSteps i m)
+      (heads size : ℕ) (us : List ℕ) (m words i : ℕ)
+      → putSteps (putSteps (putSteps out 0 (dataSteps us)) (length us) (mapSteps heads size m us words)) (length us + words) (linkSteps i m)
       ≡ putSteps out 0 (writeSteps heads size us m words i)
   unfolding writeSteps
-  write-stored heads size us k m words i e =
+  write-stored heads size us m words i =
+      let k = length us in
       let maps = mapSteps heads size m us words in
       let d = putSteps-append out 0 (dataSteps us) (maps ++ linkSteps i m) in
       let q = putSteps-append (putSteps out 0 (dataSteps us)) k maps (linkSteps i m) in
       let at : 0 + length (dataSteps us) ≡ k = omega (arith, length-dataSteps us) in
       sym (d ∙ ap (λ (n : ℕ). putSteps (putSteps out 0 (dataSteps us)) n (maps ++ linkSteps i m)) at
       ∙ q ∙ rw (length-mapSteps heads size m us words))
-
--- the k units that were stored in a list of zeros
-pub stored-units : (l : List ℕ) (k : ℕ) → k ≤ 16 → k ≤ length l → take k (sets (replicate 16 0) 0 (take k l)) ≡ take k l
-stored-units l k h e =
-    let n = length-take-le k l e in
-    let fits : length (take k l) ≤ 16 = omega arith in
-    rw (sets-front (replicate 16 0) (take k l) fits) (take-at (take k l) (drop (length (take k l)) (replicate 16 0)) k n)

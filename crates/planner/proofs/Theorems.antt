@@ -27,17 +27,25 @@ use Rattle.image.proofs.Refusing.{refused-row}
 use Rattle.image.proofs.Room.{freeUnit-below, freeMap-below, some-map-free, units-free}
 use Rattle.steps.specs.declared.Request.{Request}
 use Rattle.steps.specs.declared.Request.the-variants.{Write, Discard}
-use Rattle.steps.specs.Steps.{stepBytes, chunkOf, needOf, encodeAll}
+use Rattle.steps.specs.Steps.{stepBytes, chunkOf, needOf, goodChunk, goodSize, encodeAll}
 use Rattle.steps.proofs.Codec.{length-encoded}
 use Rattle.rules.specs.declared.Checked.the-variants.{Accepted}
-use Rattle.rules.specs.Rules.{units, planMap, goodChunk, goodSize, checked}
+use Rattle.rules.specs.Rules.{units, planMap, knownOf, checked}
 use Rattle.rules.specs.Reading.{GoodRequest}
 use Rattle.rules.proofs.Good.{good-told, chunk-tested, size-tested}
 use Rattle.planner.specs.declared.Planned.{Planned}
 use Rattle.planner.specs.declared.Planned.the-variants.{Steps, Refused}
-use Rattle.planner.specs.Planner.{planOf, planIn, planAnswer, written, planOut}
+use Rattle.planner.specs.Planner.{lowestMap, planOf, ifMap, ifRoom, planIn, planAnswer, written, planOut}
 use Rattle.planner.proofs.Storing.{length-writeSteps}
-use Rattle.planner.proofs.Accepted.{plan-units, plan-map, planned-accepted}
+use Rattle.planner.proofs.Accepted.{lowest-free, plan-units, plan-map, planned-accepted}
+
+-- ---- a free map is never wanting
+
+-- Of what is known of a sound image no write is refused for want of a free map: 9 is given for units alone.
+pub map-always : (s : List ℕ) (r : Request) (answer : Planned) → verdict s ≡ Passed → ifMap (knownOf s r) r answer ≡ answer
+unfolding freeMaps
+map-always s (Write i size) answer z = rw (lt-ltb _ _ (freeMap-below s (firstOr X (freeMaps s)) (lowest-free s (passed-tested s z))))
+map-always s (Discard i) answer z = refl
 
 -- ---- what an answer says
 
@@ -50,7 +58,7 @@ pub record Good (s : List ℕ) (r : Request) : Type 0 where
 pub record Answered (s : List ℕ) (r : Request) (room n : ℕ) : Type 0 where
   pub good : Good s r
   pub free : needOf r ≤ length (freeUnits s)
-  pub steps : n ≡ length (planOf s r)
+  pub steps : n ≡ length (planOf (knownOf s r) r)
   pub fits : stepBytes * n ≤ room
 
 impossible : {A : Type 0} → _≡_ {A = ℕ} 0 1 → A
@@ -58,7 +66,8 @@ impossible e = absurd (omega arith)
 
 -- the four tests of a request on a sound image
 abbrev tests : Bool → Bool → Bool → Bool → ℕ → ℕ → Planned
-tests a b c d free steps = cond a (cond b (cond c (Refused (NoRoom free)) (cond d (Refused (Small (stepBytes * steps))) (Steps steps))) (Refused Size)) (Refused Range)
+tests a b c d free steps =
+    cond a (cond b (cond c (Refused (NoRoom free)) (cond d (Refused (Small (stepBytes * steps))) (Steps steps))) (Refused Size)) (Refused Range)
 
 steps-found : (a b c d : Bool) (free steps n : ℕ) → tests a b c d free steps ≡ Steps n → (a ≡ true) × (b ≡ true) × (c ≡ false) × (d ≡ false) × (steps ≡ n)
 steps-found true true false false free steps n e = (refl, refl, refl, refl, cc)
@@ -74,17 +83,24 @@ room-found true true false false free steps n e = impossible cc
 room-found true false c d free steps n e = impossible cc
 room-found false b c d free steps n e = impossible cc
 
+tested-is : (s : List ℕ) (r : Request) (room : ℕ) → verdict s ≡ Passed
+    → tests (goodChunk (shapeOf s) r) (goodSize (shapeOf s) r) (ltb (length (freeUnits s)) (needOf r)) (ltb room (stepBytes * length (planOf (knownOf s r) r)))
+    (length (freeUnits s)) (length (planOf (knownOf s r) r))
+    ≡ planIn (knownOf s r) r room
+unfolding planIn
+tested-is s r room e = rw (map-always s r (ifRoom room (length (planOf (knownOf s r) r))) e)
+
 module _ (s : List ℕ) (r : Request) (room n : ℕ) where
   pub answered : planAnswer s r room ≡ Steps n → Answered s r room n
   unfolding planIn
   answered e = at (verdict s) refl e
     where
-      at : (v : Verdict) → verdict s ≡ v → ifSound v Refused (planIn s r room) ≡ Steps n → Answered s r room n
+      at : (v : Verdict) → verdict s ≡ v → ifSound v Refused (planIn (knownOf s r) r room) ≡ Steps n → Answered s r room n
       at (Unsound x) p h = impossible cc
       at Passed p h =
-          let steps = length (planOf s r) in
+          let steps = length (planOf (knownOf s r) r) in
           let f = steps-found (goodChunk (shapeOf s) r) (goodSize (shapeOf s) r) (ltb (length (freeUnits s)) (needOf r)) (ltb room (stepBytes * steps))
-          (length (freeUnits s)) steps n h in
+          (length (freeUnits s)) steps n (tested-is s r room p ∙ h) in
           record {
             good = record { sound = p; request = good-told (shapeOf s) r (ltb-true (chunkOf r) (shapeOf s .c) (f .0)) (f .1) };
             free = ltb-false (length (freeUnits s)) (needOf r) (f .2);
@@ -96,10 +112,10 @@ module _ (s : List ℕ) (r : Request) (room n : ℕ) where
 
 -- Whenever the planner answers n steps, the first 16·n bytes of the lent output are then those of its plan.
 pub written-is-plan : (s : List ℕ) (r : Request) (out : List ℕ) (n : ℕ) → planAnswer s r (length out) ≡ Steps n
-    → take (stepBytes * n) (planOut s r out) ≡ encodeAll (planOf s r)
+    → take (stepBytes * n) (planOut s r out) ≡ encodeAll (planOf (knownOf s r) r)
 written-is-plan s r out n e =
     let a = answered s r (length out) n e in
-    let xs = planOf s r in
+    let xs = planOf (knownOf s r) r in
     let bytes : planOut s r out ≡ written (Steps n) xs out = ap (λ (q : Planned). written q xs out) e in
     let long : length (encodeAll xs) ≡ stepBytes * n = length-encoded xs ∙ ap (λ (k : ℕ). stepBytes * k) (sym (a .steps)) in
     ap (take (stepBytes * n)) bytes ∙ take-at (encodeAll xs) (drop (stepBytes * n) out) (stepBytes * n) long
@@ -109,7 +125,9 @@ pub own-plans-pass : (s : List ℕ) (r : Request) (out : List ℕ) (n : ℕ) →
     → checked s r (take (stepBytes * n) (planOut s r out)) ≡ Accepted
 own-plans-pass s r out n e =
     let a = answered s r (length out) n e in
-    ap (checked s r) (written-is-plan s r out n e) ∙ planned-accepted s r (passed-tested s (a .good .sound)) (chunk-tested (shapeOf s) r (a .good .request)) (size-tested (shapeOf s) r (a .good .request)) (a .free)
+    let good = a .good .request in
+    ap (checked s r) (written-is-plan s r out n e)
+    ∙ planned-accepted s r (passed-tested s (a .good .sound)) (chunk-tested (shapeOf s) r good) (size-tested (shapeOf s) r good) (a .free)
 
 -- ---- 9 "fewer than k units free"
 
@@ -122,19 +140,22 @@ module _ (s : List ℕ) (r : Request) (room : ℕ) where
       of-image : (x : Refusal) → verdict s ≡ Unsound x → Refused x ≡ Refused (NoRoom n) → ⊥
       of-image x p h = let q : x ≡ NoRoom n = cc in refused-row s (NoRoom n) (p ∙ ap Unsound q)
 
-      at : (v : Verdict) → verdict s ≡ v → ifSound v Refused (planIn s r room) ≡ Refused (NoRoom n) → Good s r × (n ≡ length (freeUnits s)) × (n < needOf r)
+      at : (v : Verdict) → verdict s ≡ v → ifSound v Refused (planIn (knownOf s r) r room) ≡ Refused (NoRoom n)
+          → Good s r × (n ≡ length (freeUnits s)) × (n < needOf r)
       at (Unsound x) p h = absurd (of-image x p h)
       at Passed p h =
-          let steps = length (planOf s r) in
+          let steps = length (planOf (knownOf s r) r) in
           let f = room-found (goodChunk (shapeOf s) r) (goodSize (shapeOf s) r) (ltb (length (freeUnits s)) (needOf r)) (ltb room (stepBytes * steps))
-          (length (freeUnits s)) steps n h in
+          (length (freeUnits s)) steps n (tested-is s r room p ∙ h) in
           let low = ltb-true (length (freeUnits s)) (needOf r) (f .2) in
           let z = f .3 in
           (record { sound = p; request = good-told (shapeOf s) r (ltb-true (chunkOf r) (shapeOf s .c) (f .0)) (f .1) }, sym z, omega arith)
 
   pub no-room-is-refused : Good s r → length (freeUnits s) < needOf r → planAnswer s r room ≡ Refused (NoRoom (length (freeUnits s)))
   unfolding planIn
-  no-room-is-refused g h = rw (g .sound, chunk-tested (shapeOf s) r (g .request), size-tested (shapeOf s) r (g .request), lt-ltb (length (freeUnits s)) (needOf r) h)
+  no-room-is-refused g h =
+      let good = g .request in
+      rw (g .sound, chunk-tested (shapeOf s) r good, size-tested (shapeOf s) r good, lt-ltb (length (freeUnits s)) (needOf r) h)
 
 -- a good request needs at most P units
 need-few : (s : List ℕ) (r : Request) → Good s r → needOf r ≤ shapeOf s .p
@@ -173,13 +194,13 @@ module _ (s : List ℕ) (i size room n : ℕ) (e : planAnswer s (Write i size) r
   good-size : goodSize (shapeOf s) (Write i size) ≡ true
   good-size = size-tested (shapeOf s) (Write i size) (told .good .request)
 
-  pub on-lowest-units : Lowest (freeUnit s) (unitsFor size) (units (planOf s (Write i size)))
+  pub on-lowest-units : Lowest (freeUnit s) (unitsFor size) (units (planOf (knownOf s (Write i size)) (Write i size)))
   unfolding freeUnits
   on-lowest-units =
       subst (Lowest (freeUnit s) (unitsFor size)) (sym (plan-units s i size tested chunk good-size (told .free)))
       (taken-lowest (freeUnit s) (shapeOf s .n) (unitsFor size) (freeUnit-below s) (told .free))
 
-  pub on-lowest-map : Lowest (freeMap s) 1 (planMap (planOf s (Write i size)) ∷ [])
+  pub on-lowest-map : Lowest (freeMap s) 1 (planMap (planOf (knownOf s (Write i size)) (Write i size)) ∷ [])
   unfolding freeMaps
   on-lowest-map =
       let some = some-map-free s (tested .fitting) in
@@ -193,7 +214,7 @@ module _ (s : List ℕ) (i size room n : ℕ) (e : planAnswer s (Write i size) r
   steps-counted =
       let k = unitsFor size in
       let c = told .steps in
-      let a = length-writeSteps (head (shapeOf s)) size (take k (freeUnits s)) (firstOr X (freeMaps s)) (mapWords (shapeOf s)) i in
+      let a = length-writeSteps (head (shapeOf s)) size (take k (freeUnits s)) (lowestMap (knownOf s (Write i size))) (mapWords (shapeOf s)) i in
       let b = length-take-le k (freeUnits s) (told .free) in
       let f = need-few s (Write i size) (told .good) in
       let l = fitting-limits s (tested .fitting) in

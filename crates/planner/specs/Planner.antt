@@ -4,13 +4,11 @@ use mathlib.Core.Bool.{cond}
 use mathlib.Core.List.{List, [], _∷_, _++_, map}
 use lib.ListN.{length, getD, take, drop}
 use lib.Dec.{ltb}
-use Rattle.search.specs.Search.{below, firstOr}
+use Rattle.search.specs.Search.{below, firstOr, keep}
 use Rattle.layout.specs.declared.Shape.{Shape}
 use Rattle.layout.specs.declared.Refusal.the-variants.{Range, Size, NoRoom, Small}
-use Rattle.layout.specs.Layout.{X, unitsFor, head, mapWords, afterHead, shapeOf}
-use Rattle.image.specs.Soundness.{mapped}
+use Rattle.layout.specs.Layout.{X, unitsFor, head, mapWords, afterHead}
 use Rattle.image.specs.Verdicts.{verdict}
-use Rattle.image.specs.Free.{freeUnits, freeMaps}
 use Rattle.image.specs.Answers.{ifSound}
 use Rattle.steps.specs.declared.Value.{Value}
 use Rattle.steps.specs.declared.Value.the-variants.{Number, Absent}
@@ -18,8 +16,8 @@ use Rattle.steps.specs.declared.Step.{Step}
 use Rattle.steps.specs.declared.Step.the-variants.{Data, Map, Link, Fence}
 use Rattle.steps.specs.declared.Request.{Request}
 use Rattle.steps.specs.declared.Request.the-variants.{Write, Discard}
-use Rattle.steps.specs.Steps.{stepBytes, needOf, encodeAll}
-use Rattle.rules.specs.Rules.{goodChunk, goodSize}
+use Rattle.steps.specs.Steps.{stepBytes, needOf, goodChunk, goodSize, encodeAll}
+use Rattle.rules.specs.Rules.{Known, knownOf}
 use Rattle.planner.specs.declared.Planned.{Planned}
 use Rattle.planner.specs.declared.Planned.the-variants.{Steps, Refused}
 
@@ -57,13 +55,17 @@ linkSteps i m = Fence ∷ Link i (Number m) ∷ Fence ∷ []
 unfoldable pub writeSteps : ℕ → ℕ → List ℕ → ℕ → ℕ → ℕ → List Step
 writeSteps heads size us m words i = dataSteps us ++ (mapSteps heads size m us words ++ linkSteps i m)
 
-unfoldable pub planOf : List ℕ → Request → List Step
--- "on the k lowest free units, rising": the first k of the rising list; "the lowest free map": the first of its list. What the chunk itself holds is not
--- free: old units may be read until the new LINK is durable.
-planOf s (Write i size) =
-    let g = shapeOf s in writeSteps (head g) size (take (unitsFor size) (freeUnits s)) (firstOr X (freeMaps s)) (mapWords g) i
+-- "the lowest free map", or X where none is
+abbrev pub lowestMap : Known → ℕ
+lowestMap kn = firstOr X (keep (kn .mapFree) (below (kn .shape .m)))
+
+unfoldable pub planOf : Known → Request → List Step
+-- "on the k lowest free units, rising": the first k of the rising list. What the chunk itself holds is not free: old units may be read until the new LINK is
+-- durable.
+planOf kn (Write i size) =
+    let g = kn .shape in writeSteps (head g) size (take (unitsFor size) (kn .freeUnits)) (lowestMap kn) (mapWords g) i
 -- "Discard of a mapped chunk: LINK to X, FENCE. Of an unmapped one: an empty plan."
-planOf s (Discard i) = cond (mapped s i) (Link i Absent ∷ Fence ∷ []) []
+planOf kn (Discard i) = cond (kn .chunkMapped) (Link i Absent ∷ Fence ∷ []) []
 
 -- ---- what `plan_write` and `plan_discard` answer
 
@@ -75,23 +77,36 @@ ifGood g r answer = cond (goodChunk g r) (cond (goodSize g r) answer (Refused Si
 abbrev pub ifFree : ℕ → ℕ → Planned → Planned
 ifFree free k answer = cond (ltb free k) (Refused (NoRoom free)) answer
 
+-- A write takes a free map. A sound image has one, so no answer of the planner comes from here; sets from another hand may have none, and then there is room
+-- for nothing.
+abbrev pub ifMap : Known → Request → Planned → Planned
+ifMap kn (Write i size) answer = cond (ltb (lowestMap kn) (kn .shape .m)) answer (Refused (NoRoom 0))
+ifMap kn (Discard i) answer = answer
+
 -- 10 "lent output too short", with the "bytes needed" for the whole plan; else how many steps. Just enough room is enough, and an empty plan needs none.
 abbrev pub ifRoom : ℕ → ℕ → Planned
 ifRoom room steps = cond (ltb room (stepBytes * steps)) (Refused (Small (stepBytes * steps))) (Steps steps)
 
--- of a sound image, with `room` bytes lent
-unfoldable pub planIn : List ℕ → Request → ℕ → Planned
-planIn s r room = ifGood (shapeOf s) r (ifFree (length (freeUnits s)) (needOf r) (ifRoom room (length (planOf s r))))
+-- 9 and 10, of a good request
+abbrev pub planGood : Known → Request → ℕ → Planned
+planGood kn r room = ifFree (length (kn .freeUnits)) (needOf r) (ifMap kn r (ifRoom room (length (planOf kn r))))
+
+-- of what is known, of an image or from any sets, with `room` bytes lent
+unfoldable pub planIn : Known → Request → ℕ → Planned
+planIn kn r room = ifGood (kn .shape) r (planGood kn r room)
 
 -- of any image: "Every entry point first applies 1 to 6 to its image"
 abbrev pub planAnswer : List ℕ → Request → ℕ → Planned
-planAnswer s r room = ifSound (verdict s) Refused (planIn s r room)
+planAnswer s r room = ifSound (verdict s) Refused (planIn (knownOf s r) r room)
 
 -- "A refusal changes nothing lent ..; an answer changes nothing past what it writes."
 abbrev pub written : Planned → List Step → List ℕ → List ℕ
 written (Steps n) xs out = encodeAll xs ++ drop (stepBytes * n) out
 written (Refused x) xs out = out
 
--- the lent output afterwards
+-- the lent output afterwards, of what is known, and of any image
+abbrev pub outIn : Known → Request → List ℕ → List ℕ
+outIn kn r out = written (planIn kn r (length out)) (planOf kn r) out
+
 abbrev pub planOut : List ℕ → Request → List ℕ → List ℕ
-planOut s r out = written (planAnswer s r (length out)) (planOf s r) out
+planOut s r out = written (planAnswer s r (length out)) (planOf (knownOf s r) r) out

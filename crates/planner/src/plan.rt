@@ -1,14 +1,15 @@
 // The planner's own plans.
 use crate::Planned;
-use crate::taking::lowest;
-use bitset::next_member;
-use checker::check::good_size;
+use bitset::lowest;
 use image::Verdict;
 use image::load::load;
 use image::maps::is_mapped;
+use layout::ABSENT;
+use layout::MAX_CHUNK_UNITS;
 use layout::Refusal;
 use layout::Shape;
 use layout::geometry::head;
+use layout::geometry::is_size;
 use layout::geometry::map_words;
 use layout::geometry::units_for;
 use steps::Request;
@@ -17,18 +18,19 @@ use steps::Step;
 use steps::Value;
 use steps::encode::put_step;
 ghost use mathlib.Core.Path.{_≡_};
-ghost use mathlib.Core.Bool.{cond};
+ghost use mathlib.Core.Bool.{Bool, cond};
 ghost use mathlib.Core.List.{[], _∷_};
-ghost use Prim.Native.Nat.{_+_, _*_, _≤_, _<_};
-ghost use lib.ListN.{length, take};
-ghost use Rattle.bitset.specs.Bits.{limit, members, bitSet};
-ghost use Rattle.layout.specs.Layout.{maxChunkUnits, maxChunkBytes, maxMapWords};
-ghost use Rattle.layout.specs.Shaped.{On};
-ghost use Rattle.image.specs.Free.{freeUnit, freeMap};
-ghost use Rattle.image.specs.Loading.{unitSetWords, mapSetWords};
+ghost use Prim.Native.Nat.{ℕ, _+_, _*_, _^_, _≤_, _<_};
+ghost use lib.ListN.{length};
+ghost use Rattle.search.specs.Search.{firstOr};
+ghost use Rattle.bitset.specs.Bits.{inSet, limit, membersBelow};
+ghost use Rattle.layout.specs.Layout.{X, maxChunkUnits, maxMapWords, unitsFor, head, mapWords};
+ghost use Rattle.layout.specs.Shaped.{Limits};
 ghost use Rattle.steps.specs.Steps.{stepBytes, putSteps};
-ghost use Rattle.planner.specs.Planner.{dataSteps, unitValue, valueFor, mapSteps, linkSteps, writeSteps, planOf, ifRoom, planIn, planAnswer, written, planOut};
-ghost use Rattle.planner.specs.Planning.{writeOn, writeAnswer};
+ghost use Rattle.rules.specs.Rules.{known};
+ghost use Rattle.planner.specs.Planner.{dataSteps, unitValue, valueFor, mapSteps, linkSteps, writeSteps, planOf};
+ghost use Rattle.planner.specs.Planner.{ifRoom, planGood, planIn, planAnswer, outIn, planOut};
+ghost use Rattle.planner.specs.Planning.{Leaves};
 
 // The steps of a write but its DATA and MAP steps: FENCE, LINK, FENCE.
 const LINK_STEPS: usize = 3;
@@ -36,13 +38,13 @@ const LINK_STEPS: usize = 3;
 // The steps of a discard of a mapped chunk: LINK, FENCE.
 const DISCARD_STEPS: usize = 2;
 
-// DATA for pieces 0 to k - 1 on the first `k` units, from step `at` on.
-fn put_data(out: &mut [u8], at: usize, units: &[u32], k: usize)
-    requires { ⌜ (k ≤ maxChunkUnits) × (k ≤ length (now units)) × (stepBytes * (at + k) ≤ length (now out)) ⌝ }
-    ensures { λ r. ⌜ now (out .exit) ≡ putSteps (now (out .entry)) at (dataSteps (take k (now (units .entry)))) ⌝ }
+// DATA for as many pieces as there are units, from step `at` on.
+fn put_data(out: &mut [u8], at: usize, units: &[u32])
+    requires { ⌜ (length (now units) ≤ maxChunkUnits) × (stepBytes * (at + length (now units)) ≤ length (now out)) ⌝ }
+    ensures { λ r. ⌜ now (out .exit) ≡ putSteps (now (out .entry)) at (dataSteps (now (units .entry))) ⌝ }
 {
     let mut j: usize = 0;
-    while j < k {
+    while j < units.len() {
         let unit = units[j];
         put_step(
             out,
@@ -57,29 +59,27 @@ fn put_data(out: &mut [u8], at: usize, units: &[u32], k: usize)
     }
 }
 
-// What unit word `j` of a map holds that has the first `k` units.
-fn unit_value(units: &[u32], k: usize, j: usize) -> Value
-    requires { ⌜ k ≤ length (now units) ⌝ }
-    ensures { λ r. ⌜ r ≡ unitValue (take k (now (units .entry))) j ⌝ }
+// What unit word `j` of a map holds that has these units.
+fn unit_value(units: &[u32], j: usize) -> Value
+    ensures { λ r. ⌜ r ≡ unitValue (now (units .entry)) j ⌝ }
 {
-    if j < k {
+    if j < units.len() {
         return Value::Number(units[j]);
     }
     Value::Absent
 }
 
-// What word `j` of a map holds that has a size in its first `heads` words, and the first `k` units.
-fn value_for(heads: usize, size: u32, units: &[u32], k: usize, j: usize) -> Value
-    requires { ⌜ k ≤ length (now units) ⌝ }
-    ensures { λ r. ⌜ r ≡ valueFor heads size (take k (now (units .entry))) j ⌝ }
+// What word `j` of a map holds that has a size in its first `heads` words, and then these units.
+fn value_for(heads: usize, size: u32, units: &[u32], j: usize) -> Value
+    ensures { λ r. ⌜ r ≡ valueFor heads size (now (units .entry)) j ⌝ }
 {
     if j < heads {
         return Value::Number(size);
     }
-    unit_value(units, k, j - heads)
+    unit_value(units, j - heads)
 }
 
-// MAP for the words of a map that has the first `k` units, from step `at` on.
+// MAP for the words of a map that has these units, from step `at` on.
 fn put_maps(
     out: &mut [u8],
     at: usize,
@@ -87,15 +87,14 @@ fn put_maps(
     size: u32,
     map: u32,
     units: &[u32],
-    k: usize,
     words: usize,
 )
-    requires { ⌜ (words ≤ maxMapWords) × (k ≤ length (now units)) × (stepBytes * (at + words) ≤ length (now out)) ⌝ }
-    ensures { λ r. ⌜ now (out .exit) ≡ putSteps (now (out .entry)) at (mapSteps heads size map (take k (now (units .entry))) words) ⌝ }
+    requires { ⌜ (words ≤ maxMapWords) × (stepBytes * (at + words) ≤ length (now out)) ⌝ }
+    ensures { λ r. ⌜ now (out .exit) ≡ putSteps (now (out .entry)) at (mapSteps heads size map (now (units .entry)) words) ⌝ }
 {
     let mut j: usize = 0;
     while j < words {
-        let value = value_for(heads, size, units, k, j);
+        let value = value_for(heads, size, units, j);
         put_step(
             out,
             at + j,
@@ -126,75 +125,128 @@ fn put_link(out: &mut [u8], at: usize, chunk: u32, map: u32)
     put_step(out, at + 2, Step::Fence);
 }
 
-// The steps of a write on the first `k` units.
+// The steps of a write on these units.
 fn put_write(
     out: &mut [u8],
     heads: usize,
     size: u32,
     units: &[u32],
-    k: usize,
     map: u32,
     words: usize,
     chunk: u32,
 )
-    requires { ⌜ (k ≤ maxChunkUnits) × (words ≤ maxMapWords) × (k ≤ length (now units)) × (stepBytes * (k + words + 3) ≤ length (now out)) ⌝ }
-    ensures { λ r. ⌜ now (out .exit) ≡ putSteps (now (out .entry)) 0 (writeSteps heads size (take k (now (units .entry))) map words chunk) ⌝ }
+    requires { ⌜ (length (now units) ≤ maxChunkUnits) × (words ≤ maxMapWords) × (stepBytes * (length (now units) + words + 3) ≤ length (now out)) ⌝ }
+    ensures { λ r. ⌜ now (out .exit) ≡ putSteps (now (out .entry)) 0 (writeSteps heads size (now (units .entry)) map words chunk) ⌝ }
 {
-    put_data(out, 0, units, k);
-    put_maps(out, k, heads, size, map, units, k, words);
+    let k = units.len();
+    put_data(out, 0, units);
+    put_maps(out, k, heads, size, map, units, words);
     put_link(out, k + words, chunk, map);
 }
 
-// The plan of a write of a good size, on the free units and maps given as sets: refusals 9 and 10.
-fn write_on(
-    units: &[u64],
-    maps: &[u64],
-    heads: usize,
-    words: usize,
-    chunk: u32,
-    size: u64,
-    out: &mut [u8],
-) -> Planned
-    requires { ⌜ (limit (now units) < 4294967296) × (limit (now maps) < 4294967296) × (0 < length (members (now maps))) ⌝ }
-    requires { ⌜ (words ≤ maxMapWords) × (size ≤ maxChunkBytes) ⌝ }
-    ensures { λ r. ⌜ r ≡ writeAnswer (now (units .entry)) words size (length (now (out .entry))) ⌝ }
+// The plan of a write on these units and a map: refusal 10.
+fn write_to(g: Shape, units: &[u32], map: u32, chunk: u32, size: u32, out: &mut [u8]) -> Planned
+    requires { ⌜ Limits g ⌝ }
+    requires { ⌜ length (now units) ≤ maxChunkUnits ⌝ }
     ensures { λ r. ⌜
-        now (out .exit)
-        ≡ written (writeAnswer (now (units .entry)) words size (length (now (out .entry))))
-        (writeOn heads (now (units .entry)) (now (maps .entry)) words chunk size) (now (out .entry))
+        Leaves (ifRoom (length (now (out .entry))) (length (now (units .entry)) + mapWords g + 3))
+        (writeSteps (head g) size (now (units .entry)) map (mapWords g) chunk) (now (out .entry)) r (now (out .exit))
         ⌝ }
 {
-    let k = units_for(size) as usize;
-    let steps = k + words + LINK_STEPS;
-    let taken = lowest(units, k);
-    let free = taken.count;
-    if free < k {
-        return Planned::Refused(Refusal::NoRoom(free as u32));
-    }
+    let heads = head(g) as usize;
+    let words = map_words(g) as usize;
+    let steps = units.len() + words + LINK_STEPS;
     if out.len() < STEP_BYTES * steps {
         return Planned::Refused(Refusal::Small((STEP_BYTES * steps) as u32));
     }
-    let map = next_member(maps, 0);
-    let chosen = taken.units;
-    put_write(
-        out,
-        heads,
-        size as u32,
-        &chosen,
-        k,
-        map as u32,
-        words,
-        chunk,
-    );
+    put_write(out, heads, size, units, map, words, chunk);
     Planned::Steps(steps as u32)
 }
 
-// The plan of a discard of a chunk in range: refusal 10.
-fn discard_on(mapped: bool, chunk: u32, out: &mut [u8]) -> Planned
-    ensures { λ r. ⌜ r ≡ ifRoom (length (now (out .entry))) (cond mapped 2 0) ⌝ }
+// The lowest map of a set below `end`, or X where there is none.
+fn lowest_map(maps: &[u64], end: u32) -> u64
+    requires { ⌜ limit (now maps) < 2 ^ 64 ⌝ }
+    ensures { λ r. ⌜ r ≡ firstOr X (membersBelow (now (maps .entry)) end) ⌝ }
+{
+    let mut found = [0u32; 1];
+    if lowest(maps, end, &mut found) == 0 {
+        return ABSENT;
+    }
+    found[0] as u64
+}
+
+// The plan of a write of a good size, on the lowest free units, stored in `chosen`, and the lowest free map: refusals 9 and 10.
+fn write_lowest(
+    g: Shape,
+    units: &[u64],
+    maps: &[u64],
+    chosen: &mut [u32],
+    chunk: u32,
+    size: u32,
+    out: &mut [u8],
+) -> Planned
+    requires { ⌜ Limits g ⌝ }
+    requires { ⌜ (limit (now units) < 2 ^ 64) × (limit (now maps) < 2 ^ 64) ⌝ }
+    requires { ⌜ (length (now chosen) ≡ unitsFor size) × (length (now chosen) ≤ maxChunkUnits) ⌝ }
     ensures { λ r. ⌜
-        now (out .exit)
-        ≡ written (ifRoom (length (now (out .entry))) (cond mapped 2 0)) (cond mapped (Step.Link chunk Value.Absent ∷ Step.Fence ∷ []) []) (now (out .entry))
+        ((m : Bool) →
+        Leaves (planGood (known g (inSet (now (units .entry))) (inSet (now (maps .entry))) m) (Request.Write chunk size) (length (now (out .entry))))
+        (planOf (known g (inSet (now (units .entry))) (inSet (now (maps .entry))) m) (Request.Write chunk size)) (now (out .entry)) r (now (out .exit)))
+        ⌝ }
+{
+    let k = chosen.len();
+    let free = lowest(units, g.n, chosen);
+    if free < k {
+        return Planned::Refused(Refusal::NoRoom(free as u32));
+    }
+    let map = lowest_map(maps, g.m);
+    if g.m as u64 <= map {
+        return Planned::Refused(Refusal::NoRoom(0));
+    }
+    write_to(g, chosen, map as u32, chunk, size, out)
+}
+
+// The plan of a write, where the shape and any sets of free units and maps are known: refusals 7 to 10.
+pub fn write_on(
+    g: Shape,
+    units: &[u64],
+    maps: &[u64],
+    chunk: u64,
+    size: u64,
+    out: &mut [u8],
+) -> Planned
+    requires { ⌜ Limits g ⌝ }
+    requires { ⌜ (limit (now units) < 2 ^ 64) × (limit (now maps) < 2 ^ 64) ⌝ }
+    ensures { λ r. ⌜
+        ((m : Bool) →
+        (r ≡ planIn (known g (inSet (now (units .entry))) (inSet (now (maps .entry))) m) (Request.Write chunk size) (length (now (out .entry))))
+        × (now (out .exit) ≡ outIn (known g (inSet (now (units .entry))) (inSet (now (maps .entry))) m) (Request.Write chunk size) (now (out .entry))))
+        ⌝ }
+{
+    if g.c as u64 <= chunk {
+        return Planned::Refused(Refusal::Range);
+    }
+    if !is_size(g, size) {
+        return Planned::Refused(Refusal::Size);
+    }
+    let k = units_for(size) as usize;
+    let mut chosen = [0u32; MAX_CHUNK_UNITS as usize];
+    write_lowest(
+        g,
+        units,
+        maps,
+        &mut chosen[..k],
+        chunk as u32,
+        size as u32,
+        out,
+    )
+}
+
+// The plan of a discard of a chunk in range: refusal 10.
+fn put_discard(mapped: bool, chunk: u32, out: &mut [u8]) -> Planned
+    ensures { λ r. ⌜
+        Leaves (ifRoom (length (now (out .entry))) (cond mapped 2 0)) (cond mapped (Step.Link chunk Value.Absent ∷ Step.Fence ∷ []) []) (now (out .entry))
+        r (now (out .exit))
         ⌝ }
 {
     if !mapped {
@@ -215,53 +267,17 @@ fn discard_on(mapped: bool, chunk: u32, out: &mut [u8]) -> Planned
     Planned::Steps(DISCARD_STEPS as u32)
 }
 
-// The answer to a write on a sound image, of which the shape and the free sets are known: refusals 7 to 10.
-fn write_in(
-    image: &[u8],
-    g: Shape,
-    units: &[u64],
-    maps: &[u64],
-    chunk: u64,
-    size: u64,
-    out: &mut [u8],
-) -> Planned
-    requires { ⌜ On g (now image) ⌝ }
-    requires { ⌜ (now units ≡ bitSet (freeUnit (now image)) unitSetWords) × (now maps ≡ bitSet (freeMap (now image)) mapSetWords) ⌝ }
-    ensures { λ r. ⌜ r ≡ planIn (now (image .entry)) (Request.Write chunk size) (length (now (out .entry))) ⌝ }
+// The plan of a discard, where the shape and whether the chunk is mapped are known: refusals 7 and 10.
+pub fn discard_on(g: Shape, mapped: bool, chunk: u64, out: &mut [u8]) -> Planned
     ensures { λ r. ⌜
-        now (out .exit)
-        ≡ written (planIn (now (image .entry)) (Request.Write chunk size) (length (now (out .entry))))
-        (planOf (now (image .entry)) (Request.Write chunk size)) (now (out .entry))
+        ((units maps : ℕ → Bool) → (r ≡ planIn (known g units maps mapped) (Request.Discard chunk) (length (now (out .entry))))
+        × (now (out .exit) ≡ outIn (known g units maps mapped) (Request.Discard chunk) (now (out .entry))))
         ⌝ }
 {
-    let chunks = g.c as u64;
-    if chunks <= chunk {
+    if g.c as u64 <= chunk {
         return Planned::Refused(Refusal::Range);
     }
-    if !good_size(g, Request::Write { chunk, size }) {
-        return Planned::Refused(Refusal::Size);
-    }
-    let heads = head(g) as usize;
-    let words = map_words(g) as usize;
-    write_on(units, maps, heads, words, chunk as u32, size, out)
-}
-
-// The answer to a discard on a sound image, of which the shape is known: refusals 7 and 10.
-fn discard_in(image: &[u8], g: Shape, chunk: u64, out: &mut [u8]) -> Planned
-    requires { ⌜ On g (now image) ⌝ }
-    ensures { λ r. ⌜ r ≡ planIn (now (image .entry)) (Request.Discard chunk) (length (now (out .entry))) ⌝ }
-    ensures { λ r. ⌜
-        now (out .exit)
-        ≡ written (planIn (now (image .entry)) (Request.Discard chunk) (length (now (out .entry))))
-        (planOf (now (image .entry)) (Request.Discard chunk)) (now (out .entry))
-        ⌝ }
-{
-    let chunks = g.c as u64;
-    if chunks <= chunk {
-        return Planned::Refused(Refusal::Range);
-    }
-    let mapped = is_mapped(image, g, chunk);
-    discard_on(mapped, chunk as u32, out)
+    put_discard(mapped, chunk as u32, out)
 }
 
 // Plans a write of `size` compressed bytes to a chunk, and stores the plan in `out`: refusals 1 to 10.
@@ -275,9 +291,8 @@ pub fn plan_write(image: &[u8], chunk: u64, size: u64, out: &mut [u8]) -> Planne
         Verdict::Refused(x) => Planned::Refused(x),
         Verdict::Passed => {
             let g = l.shape;
-            let units = l.units;
             let maps = l.maps;
-            write_in(image, g, &units, &maps, chunk, size, out)
+            write_on(g, &l.units, &maps, chunk, size, out)
         }
     }
 }
@@ -293,7 +308,8 @@ pub fn plan_discard(image: &[u8], chunk: u64, out: &mut [u8]) -> Planned
         Verdict::Refused(x) => Planned::Refused(x),
         Verdict::Passed => {
             let g = l.shape;
-            discard_in(image, g, chunk, out)
+            let mapped = is_mapped(image, g, chunk);
+            discard_on(g, mapped, chunk, out)
         }
     }
 }

@@ -1,59 +1,38 @@
--- `planner::plan::discard_on` meets its contract: no steps, 10, or LINK and FENCE.
+-- `planner::plan::discard_on` meets its contract: 7, then what is planned for the chunk, mapped or not.
+use Rattle.planner.proofs.AnswerLaws.{out-of-range, good-request, discard-good}
+use Rattle.rules.specs.Rules.{known}
+use Rattle.steps.specs.declared.Request.the-variants.{Discard}
 use mathlib.Core.Path.{refl}
-use borrow.Author.Needs.{needs, zero≤}
-use borrow.Author.Tests.{lt-ltb, le-ltb, not-true, not-false}
-use Rattle.layout.specs.declared.Refusal.the-variants.{Small}
-use Rattle.steps.specs.Steps.{encodeAll}
-use Rattle.planner.specs.declared.Planned.the-variants.{Steps, Refused}
-use Rattle.planner.proofs.AnswerLaws.{left-by, discard-bytes}
+use borrow.Author.Needs.{needs}
 use Rattle.planner.proofs.plan.discard_on.Statement.{statement}
 use Rattle.planner.proofs.plan.discard_on.Tie as tie
 
+cast-if1 : tie.Need-cast-if1
+cast-if1 c = search needs
+
 returns : tie.Need-returns
-unfolding encodeAll
-returns c = rw (not-true (c .before .before .args .mapped) (c .if1 .taken)) (left-by _ _ _ (Steps 0) _ (rw (le-ltb _ _ zero≤)) refl)
+returns c = λ units maps.
+    let a = c .before .before .before .args in
+    out-of-range (known (a .g) units maps (a .mapped)) (Discard (a .chunk)) (a .out .now) (c .if1 .taken)
 
-mul-if2 : tie.Need-mul-if2
-mul-if2 c = search needs
+cast-put-discard : tie.Need-cast-put-discard
+cast-put-discard c = search needs
 
-mul-t7 : tie.Need-mul-t7
-mul-t7 c = search needs
-
-cast-t8 : tie.Need-cast-t8
-cast-t8 c = search needs
-
-returns-2 : tie.Need-returns-2
-returns-2 c = rw (not-false (c .before .before .before .args .mapped) (c .before .if1 .left)) (left-by _ _ _ (Refused (Small 32)) _ (rw (lt-ltb _ _ (c .if2 .taken))) refl)
-
-put-step-requires : tie.Need-put-step-requires
-put-step-requires c κs = search needs
-
-put-step-requires-2 : tie.Need-put-step-requires-2
-put-step-requires-2 c κs = search needs
-
-cast-t17 : tie.Need-cast-t17
-cast-t17 c = search needs
+put-discard-requires : tie.Need-put-discard-requires
+put-discard-requires c κs = search needs
 
 same-length : tie.Need-same-length
 same-length c = search needs
 
-returns-3 : tie.Need-returns-3
-returns-3 c =
-    let a = c .before .before .before .before .before .before .before .before .before .before .before .args in
-    rw (not-false (a .mapped) (c .before .before .before .before .before .before .before .before .before .if1 .left))
-    (left-by _ _ _ (Steps 2) _ (rw (le-ltb _ _ (c .before .before .before .before .before .before .before .before .if2 .left))) (discard-bytes (a .out .now) _ (a .chunk) (c .before .before .before .before .before .before .before .before .if2 .left) (cc)))
+returns-2 : tie.Need-returns-2
+returns-2 c = λ units maps.
+    let ranged = c .before .before .before .before in
+    let a = ranged .before .before .before .args in
+    let kn = known (a .g) units maps (a .mapped) in
+    let planned = discard-good kn (a .chunk) (a .out .now) _ _ (c .before .before .put-discard .ensures) in
+    good-request kn (Discard (a .chunk)) (a .out .now) (ranged .if1 .left) refl _ _ planned
 
 pub discard-on-spec : {M : Type 1} → statement M
 discard-on-spec =
     tie.close
-    (tie.spec
-    returns
-    mul-if2
-    mul-t7
-    cast-t8
-    returns-2
-    put-step-requires
-    put-step-requires-2
-    cast-t17
-    same-length
-    returns-3)
+    (tie.spec cast-if1 returns cast-put-discard put-discard-requires same-length returns-2)

@@ -1,9 +1,14 @@
--- `planner::plan::plan_write` meets its contract: the refusal of the image, or what `write_in` answers and leaves.
-use mathlib.Core.Path.{sym, _∙_}
-use borrow.Author.Needs.{needs}
-use Rattle.image.proofs.Loads.{loaded-known, loaded-verdict}
+-- `planner::plan::plan_write` meets its contract: the refusal of the image, or what `write_on` answers and leaves for the sets that load found.
+use Rattle.planner.proofs.AnswerLaws.{plan-refused, write-passed}
 use Rattle.steps.specs.declared.Request.the-variants.{Write}
-use Rattle.planner.proofs.AnswerLaws.{plan-refused, plan-passed}
+use Rattle.image.proofs.Loads.{loaded-known, loaded-verdict}
+use lib.ListN.{length}
+use native.Mathlib.Omega.{arith}
+use mathlib.Core.Path.{sym, ap, _∙_}
+use Rattle.bitset.proofs.BitSets.{length-bitSet}
+use Rattle.image.specs.Free.{freeUnit, freeMap}
+use Rattle.image.specs.Loading.{unitSetWords, mapSetWords}
+use borrow.Author.Needs.{needs}
 use Rattle.planner.proofs.plan.plan_write.Statement.{statement}
 use Rattle.planner.proofs.plan.plan_write.Tie as tie
 
@@ -16,30 +21,35 @@ enum-known-v c = search needs
 enum-told : tie.Need-enum-told
 enum-told c = search needs
 
-slice-aggregate-write-in : tie.Need-slice-aggregate-write-in
-slice-aggregate-write-in c = search needs
+slice-aggregate-write-on : tie.Need-slice-aggregate-write-on
+slice-aggregate-write-on c = search needs
 
-slice-aggregate-write-in-2 : tie.Need-slice-aggregate-write-in-2
-slice-aggregate-write-in-2 c = search needs
-
-write-in-requires : tie.Need-write-in-requires
-write-in-requires c κs =
-    let k = loaded-known (c .before .before .before .before .before .before .before .before .before .before .before .args .image .now) (c .before .before .before .before .before .before .before .before .load .result) (c .before .before .before .before .before .before .before .before .load .ensures) (c .before .before .before .before .before .before .enum-told .given .1) in
-    (k .on, (k .units, k .maps))
+write-on-requires : tie.Need-write-on-requires
+write-on-requires c κs =
+    let s = c .before .before .before .before .before .before .before .before .before .before .before .before .args .image .now in
+    let l = c .before .before .before .before .before .before .before .before .before .load in
+    let k = loaded-known s (l .result) (l .ensures) (c .before .before .before .before .before .before .before .enum-told .given .1) in
+    let u = ap length (k .units) ∙ length-bitSet (freeUnit s) unitSetWords in
+    let m = ap length (k .maps) ∙ length-bitSet (freeMap s) mapSetWords in
+    (k .shaped .limits, (omega arith, omega arith))
 
 returns : tie.Need-returns
 returns c =
     let a = c .before .before .before .before .before .before .args in
-    plan-refused (a .image .now) (Write (a .chunk) (a .size)) (a .out .now) _ (sym (loaded-verdict (a .image .now) (c .before .before .before .load .result) (c .before .before .before .load .ensures)) ∙ c .before .v .given .1)
+    let v = loaded-verdict (a .image .now) (c .before .before .before .load .result) (c .before .before .before .load .ensures) in
+    plan-refused (a .image .now) (Write (a .chunk) (a .size)) (a .out .now) _ (sym v ∙ c .before .v .given .1)
 
 same-length : tie.Need-same-length
 same-length c = search needs
 
 returns-2 : tie.Need-returns-2
 returns-2 c =
-    let a = c .before .before .before .before .before .before .before .before .before .before .before .before .before .before .args in
-    let k = loaded-known (a .image .now) (c .before .before .before .before .before .before .before .before .before .before .before .load .result) (c .before .before .before .before .before .before .before .before .before .before .before .load .ensures) (c .before .before .before .before .before .before .before .before .before .enum-told .given .1) in
-    plan-passed (a .image .now) (Write (a .chunk) (a .size)) (a .out .now) (k .passed) _ _ (c .before .before .write-in .ensures)
+    let a = c .before .before .before .before .before .before .before .before .before .before .before .before .before .before .before .args in
+    let s = a .image .now in
+    let l = c .before .before .before .before .before .before .before .before .before .before .before .before .load in
+    let k = loaded-known s (l .result) (l .ensures) (c .before .before .before .before .before .before .before .before .before .before .enum-told .given .1) in
+    write-passed s _ (k .passed) (k .shape) (a .out .now) _ _ _ _ (a .chunk) (a .size) (k .shaped .limits) (k .units) (k .maps)
+    (c .before .before .write-on .ensures)
 
 pub plan-write-spec : {M : Type 1} → statement M
 plan-write-spec =
@@ -48,9 +58,8 @@ plan-write-spec =
     load-requires
     enum-known-v
     enum-told
-    slice-aggregate-write-in
-    slice-aggregate-write-in-2
-    write-in-requires
+    slice-aggregate-write-on
+    write-on-requires
     returns
     same-length
     returns-2)

@@ -23,7 +23,9 @@ same-length : tie.Need-same-length
 same-length c = search needs
 
 returns : tie.Need-returns
-returns c = let a = c .before .before .before .before .before .before .before .before .before .before .before .before .before .args in cc (link-stored (a .out .now) (a .at) (a .chunk) (a .map))
+returns c =
+    let a = c .before .before .before .before .before .before .before .before .before .before .before .before .before .args in
+    cc (link-stored (a .out .now) (a .at) (a .chunk) (a .map))
 
 pub put-link-spec : {M : Type 1} → statement M
 put-link-spec =

@@ -3,7 +3,7 @@ use Prim.Native.Nat.{_+_, _-_, _≤_}
 use native.Mathlib.Omega.{arith}
 use mathlib.Core.List.{[], _∷_}
 use mathlib.Core.Path.{_≡_, refl, ap, sym, _∙_}
-use lib.ListN.{length, take}
+use lib.ListN.{length}
 use borrow.Author.Needs.{needs, zero≤}
 use Rattle.search.specs.Search.{from, below}
 use Rattle.steps.specs.declared.Step.the-variants.{Map}
@@ -17,18 +17,18 @@ use mathlib.Core.List as list
 use Rattle.planner.proofs.plan.put_maps.Tie as tie
 
 abbrev Inv-loop : tie.InvT-loop
-Inv-loop out₀ at heads size map units k words j₀ out j =
+Inv-loop out₀ at heads size map units words j₀ out j =
     (j ≤ words) × (length out ≡ length out₀)
-    × (putSteps out (at + j) (list.map (mapStep heads size map (take k units)) (from j (words - j)))
-    ≡ putSteps out₀ at (list.map (mapStep heads size map (take k units)) (below words)))
+    × (putSteps out (at + j) (list.map (mapStep heads size map units) (from j (words - j)))
+    ≡ putSteps out₀ at (list.map (mapStep heads size map units) (below words)))
 
 abbrev μ-loop : tie.MeasureT-loop
-μ-loop out₀ at heads size map units k words j₀ out j = words - j
+μ-loop out₀ at heads size map units words j₀ out j = words - j
 
 loop-holds : tie.Need-loop-holds Inv-loop μ-loop
 loop-holds c =
     let a = c .before .before .args in
-    (zero≤, refl, steps-start (mapStep (a .heads) (a .size) (a .map) (take (a .k) (a .units .now))) (a .out .now) (a .at) (a .words))
+    (zero≤, refl, steps-start (mapStep (a .heads) (a .size) (a .map) (a .units .now)) (a .out .now) (a .at) (a .words))
 
 value-for-requires : tie.Need-value-for-requires Inv-loop μ-loop
 value-for-requires c κs = search needs
@@ -36,8 +36,8 @@ value-for-requires c κs = search needs
 add-put-step : tie.Need-add-put-step Inv-loop μ-loop
 add-put-step c = search needs
 
-cast-t16 : tie.Need-cast-t16 Inv-loop μ-loop
-cast-t16 c = search needs
+cast-t15 : tie.Need-cast-t15 Inv-loop μ-loop
+cast-t15 c = search needs
 
 put-step-requires : tie.Need-put-step-requires Inv-loop μ-loop
 put-step-requires c κs = search needs
@@ -52,8 +52,9 @@ loop-again : tie.Need-loop-again Inv-loop μ-loop
 loop-again c =
     let a = c .before .before .before .before .before .before .before .before .before .args in
     let l = c .before .before .before .before .before .before .loop in
-    let f = mapStep (a .heads) (a .size) (a .map) (take (a .k) (a .units .now)) in
-    let put = c .before .before .put-step .ensures ∙ ap (λ (v : Value). putSteps (l .out) (a .at + l .j) (Map (a .map) (l .j) v ∷ [])) (c .before .before .before .before .value-for .ensures) in
+    let f = mapStep (a .heads) (a .size) (a .map) (a .units .now) in
+    let value = c .before .before .before .before .value-for .ensures in
+    let put = c .before .before .put-step .ensures ∙ ap (λ (v : Value). putSteps (l .out) (a .at + l .j) (Map (a .map) (l .j) v ∷ [])) value in
     (omega arith, ap length put ∙ length-putSteps _ _ _ ∙ l .inv .1, rw put (steps-turn f (l .out) (a .at) (a .words) (l .j) (omega arith) ∙ l .inv .2))
 
 same-length : tie.Need-same-length Inv-loop μ-loop
@@ -64,7 +65,7 @@ unfolding mapSteps
 returns c =
     let a = c .before .before .before .before .args in
     let l = c .before .loop in
-    let f = mapStep (a .heads) (a .size) (a .map) (take (a .k) (a .units .now)) in
+    let f = mapStep (a .heads) (a .size) (a .map) (a .units .now) in
     sym (steps-end f (l .out) (a .at) (a .words) (l .j) (omega arith)) ∙ l .inv .2
 
 pub put-maps-spec : {M : Type 1} → statement M
@@ -76,7 +77,7 @@ put-maps-spec =
     loop-holds
     value-for-requires
     add-put-step
-    cast-t16
+    cast-t15
     put-step-requires
     add-j
     loop-less

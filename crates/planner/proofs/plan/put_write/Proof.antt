@@ -1,7 +1,4 @@
 -- `planner::plan::put_write` meets its contract: the three parts, one after the other.
-use native.Mathlib.Omega.{arith}
-use lib.ListN.{take}
-use lib.Seq.{length-take-le}
 use borrow.Author.Needs.{needs}
 use Rattle.planner.proofs.Storing.{write-stored}
 use Rattle.planner.proofs.plan.put_write.Statement.{statement}
@@ -25,8 +22,7 @@ same-length c = search needs
 returns : tie.Need-returns
 returns c =
     let a = c .before .before .before .before .before .before .before .before .before .before .before .before .before .before .args in
-    let us = take (a .k) (a .units .now) in
-    cc (write-stored (a .out .now) (a .heads) (a .size) us (a .k) (a .map) (a .words) (a .chunk) (length-take-le (a .k) (a .units .now) (omega arith)))
+    cc (write-stored (a .out .now) (a .heads) (a .size) (a .units .now) (a .map) (a .words) (a .chunk))
 
 pub put-write-spec : {M : Type 1} → statement M
 put-write-spec =

@@ -1,117 +1,87 @@
--- `planner::plan::write_on` meets its contract: 9, 10, then the plan on the lowest members of the sets.
-use Prim.Native.Nat.{_+_, _*_}
+-- `planner::plan::write_on` meets its contract: 7, 8, then what is planned on the lowest units and map.
+use Prim.Native.Nat.{ℕ}
+use lib.ListN.{replicate}
+use Rattle.planner.proofs.AnswerLaws.{out-of-range, bad-size, good-request}
+use Rattle.rules.proofs.Good.{size-low}
+use Rattle.rules.specs.Rules.{known}
+use Rattle.steps.specs.declared.Request.the-variants.{Write}
+use Rattle.bitset.specs.Bits.{inSet}
+use borrow.Author.Tests.{not-true, not-false}
+use lib.Seq.{length-take-le}
+use mathlib.Core.Path.{sym, _∙_}
 use native.Mathlib.Omega.{arith}
-use mathlib.Core.Path.{_≡_, refl}
-use borrow.Author.Tests.{lt-ltb, le-ltb}
-use lib.ListN.{length}
-use Rattle.layout.specs.Layout.{maxChunkUnits}
-use Rattle.search.proofs.Rising.{rising-first}
-use Rattle.bitset.specs.Bits.{inSet, limit}
-use Rattle.layout.specs.declared.Refusal.the-variants.{NoRoom, Small}
-use Rattle.planner.specs.declared.Planned.the-variants.{Steps, Refused}
-use Rattle.planner.proofs.AnswerLaws.{left-by, write-bytes}
 use borrow.Author.Needs.{needs}
 use Rattle.planner.proofs.plan.write_on.Statement.{statement}
 use Rattle.planner.proofs.plan.write_on.Tie as tie
 
-units-for-requires : tie.Need-units-for-requires
-units-for-requires c κs = search needs
-
-add-steps : tie.Need-add-steps
-add-steps c = search needs
-
-add-steps-2 : tie.Need-add-steps-2
-add-steps-2 c = search needs
-
-lowest-requires : tie.Need-lowest-requires
-lowest-requires c κs = search needs
-
-cast-t17 : tie.Need-cast-t17
-cast-t17 c = search needs
+cast-if1 : tie.Need-cast-if1
+cast-if1 c = search needs
 
 returns : tie.Need-returns
-returns c =
-    let few = c .before .lowest .ensures .0 (c .if1 .taken) in
-    left-by _ _ _ (Refused (NoRoom (c .before .lowest .result .count))) _
-    (rw (← c .before .before .units-for .ensures .0, ← few, lt-ltb _ _ (c .if1 .taken))) refl
+returns c = λ m.
+    let a = c .before .before .before .before .before .args in
+    out-of-range (known (a .g) (inSet (a .units .now)) (inSet (a .maps .now)) m) (Write (a .chunk) (a .size)) (a .out .now) (c .if1 .taken)
 
-mul-if2 : tie.Need-mul-if2
-mul-if2 c = search needs
-
-mul-t20 : tie.Need-mul-t20
-mul-t20 c = search needs
-
-cast-t21 : tie.Need-cast-t21
-cast-t21 c = search needs
+is-size-requires : tie.Need-is-size-requires
+is-size-requires c κs = search needs
 
 returns-2 : tie.Need-returns-2
-returns-2 c =
+returns-2 c = λ m.
     let a = c .before .before .before .before .before .before .before .args in
-    let k = c .before .before .before .units-for in
-    let enough = c .before .before .lowest .ensures .1 (c .before .if1 .left) .0 in
-    left-by _ _ _ (Refused (Small (16 * (k .result + a .words + 3)))) _ (rw (← k .ensures .0, le-ltb _ _ enough, lt-ltb _ _ (c .if2 .taken))) refl
+    let other = sym (c .before .is-size .ensures) ∙ not-true (c .before .is-size .result) (c .if2 .taken) in
+    bad-size (known (a .g) (inSet (a .units .now)) (inSet (a .maps .now)) m) (Write (a .chunk) (a .size)) (a .out .now) (c .before .before .if1 .left) other
 
-next-member-requires : tie.Need-next-member-requires
-next-member-requires c κs = search needs
+units-for-requires : tie.Need-units-for-requires
+units-for-requires c κs =
+    let a = c .before .before .before .before .before .before .before .args in
+    let good = sym (c .before .is-size .ensures) ∙ not-false (c .before .is-size .result) (c .if2 .left) in
+    size-low (a .g) (Write (a .chunk) (a .size)) (c .before .before .before .before .before .before .before .pre .0 .p-high) good
 
-cast-put-write : tie.Need-cast-put-write
-cast-put-write c = search needs
+array-borrow-prefix-chosen : tie.Need-array-borrow-prefix-chosen
+array-borrow-prefix-chosen c = search needs
 
-slice-aggregate-put-write : tie.Need-slice-aggregate-put-write
-slice-aggregate-put-write c = search needs
+slice-aggregate-write-lowest : tie.Need-slice-aggregate-write-lowest
+slice-aggregate-write-lowest c = sym (length-take-le {A = ℕ} (c .before .units-for .result) (replicate 16 0) (omega arith))
 
-cast-put-write-2 : tie.Need-cast-put-write-2
-cast-put-write-2 c =
-    let a = c .before .before .before .before .before .before .before .before .before .before .before in
-    let maps = a .args .maps .now in
-    let first = rising-first (inSet maps) (limit maps) 0 (limit maps) (omega (arith, a .pre)) in
-    omega (arith, first .below-n, c .before .before .before .next-member .ensures)
+cast-write-lowest : tie.Need-cast-write-lowest
+cast-write-lowest c = search needs
 
-put-write-requires : tie.Need-put-write-requires
-put-write-requires c κs = let n : length (c .before .before .before .before .before .before .lowest .result .units) ≡ maxChunkUnits = search needs in
-    (omega arith, omega arith, omega arith, omega arith)
+cast-write-lowest-2 : tie.Need-cast-write-lowest-2
+cast-write-lowest-2 c = search needs
 
-cast-t26 : tie.Need-cast-t26
-cast-t26 c = search needs
+write-lowest-requires : tie.Need-write-lowest-requires
+write-lowest-requires c κs =
+    let k = c .before .before .units-for in
+    let long = length-take-le {A = ℕ} (k .result) (replicate 16 0) (omega arith) in
+    let start = c .before .before .before .before .before .before .before .before .before .before in
+    (start .pre .0, (start .pre .1, (long ∙ k .ensures .0, omega arith)))
 
 same-length : tie.Need-same-length
 same-length c = search needs
 
 returns-3 : tie.Need-returns-3
-returns-3 c =
+returns-3 c = λ m.
     let tested = c .before .before .before .before .before .before .before in
-    let taken = tested .before .before in
-    let start = taken .before .before .before .before .before in
-    let a = start .args in
-    let k = taken .before .units-for in
-    let l = taken .lowest in
-    let enough = l .ensures .1 (tested .before .if1 .left) in
-    let room = tested .if2 .left in
-    let next = c .before .before .before .before .before .before .next-member in
-    let bytes =
-    write-bytes (a .heads) (a .size) (a .units .now) (a .maps .now) (l .result .units) (a .out .now) _ (k .result) (next .result) (a .words) (a .chunk)
-    (enough .0) (omega (arith, start .pre)) room (enough .1) (next .ensures) (c .before .before .put-write .ensures) in
-    left-by _ _ _ (Steps (k .result + a .words + 3)) _ (rw (← k .ensures .0, le-ltb _ _ (enough .0), le-ltb _ _ room)) (rw (← k .ensures .0) bytes)
+    let size = tested .before .is-size in
+    let ranged = tested .before .before in
+    let a = ranged .before .before .before .before .before .args in
+    let good = sym (size .ensures) ∙ not-false (size .result) (tested .if2 .left) in
+    good-request (known (a .g) (inSet (a .units .now)) (inSet (a .maps .now)) m) (Write (a .chunk) (a .size)) (a .out .now) (ranged .if1 .left) good _ _
+    (c .before .before .before .write-lowest .ensures m)
 
 pub write-on-spec : {M : Type 1} → statement M
 write-on-spec =
     tie.close
     (tie.spec
-    units-for-requires
-    add-steps
-    add-steps-2
-    lowest-requires
-    cast-t17
+    cast-if1
     returns
-    mul-if2
-    mul-t20
-    cast-t21
+    is-size-requires
     returns-2
-    next-member-requires
-    cast-put-write
-    slice-aggregate-put-write
-    cast-put-write-2
-    put-write-requires
-    cast-t26
+    units-for-requires
+    array-borrow-prefix-chosen
+    slice-aggregate-write-lowest
+    cast-write-lowest
+    cast-write-lowest-2
+    write-lowest-requires
     same-length
     returns-3)
