@@ -18,7 +18,7 @@ use Rattle.rules.specs.declared.Checked.{Checked}
 use Rattle.rules.specs.declared.Checked.the-variants.{Accepted, Refused as Denied}
 use Rattle.rules.specs.Rules.{checked}
 use Rattle.rules.proofs.StepLaws.{InRange, each-in-range}
-use Rattle.checker.proofs.Accepting.{accepted-of}
+use Rattle.rules.proofs.Accepting.{accepted-of}
 use Rattle.carry.specs.Carry.{carry, carryAll, carried, Misses, carryAnswer, leftBy, carryImage}
 use Rattle.carry.proofs.CarryLaws.{on-carry, byte-miss, carry-trailer}
 use Rattle.carry.proofs.AnswerLaws.{answer-accepted, accepted-answer}

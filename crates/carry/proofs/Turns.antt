@@ -33,7 +33,8 @@ module _ (s plan : List ℕ) (n : ℕ) where
   unfolding carried
   carry-start = let e : n - 0 ≡ n = omega arith in rw e (ap (λ (xs : List Step). carryAll s (take n xs)) (sym (rest-start plan)))
 
-  first : (g : Shape) (d : Decoded) (xs : List Step) (k : ℕ) → wholeInRange g d ≡ true → carryAll (carryDecoded s d) (take k xs) ≡ carryAll s (take (suc k) (stepsAppend d xs))
+  first : (g : Shape) (d : Decoded) (xs : List Step) (k : ℕ) → wholeInRange g d ≡ true
+      → carryAll (carryDecoded s d) (take k xs) ≡ carryAll s (take (suc k) (stepsAppend d xs))
   unfolding carryAll
   first g (Whole x) xs k h = refl
   first g Malformed xs k h = contradict h refl

@@ -16,7 +16,7 @@ use Rattle.steps.specs.declared.Request.{Request}
 use Rattle.steps.specs.Steps.{wordOf, stepsOf, wholeSteps}
 use Rattle.rules.specs.declared.Checked.{Checked}
 use Rattle.rules.specs.declared.Checked.the-variants.{Accepted, Refused as Denied}
-use Rattle.rules.specs.Rules.{judged}
+use Rattle.rules.specs.Rules.{Known, knownOf, judged}
 
 -- ---- the image: "stores the MAP and LINK words of those n and no other byte. DATA is the caller's."
 
@@ -45,13 +45,14 @@ Misses g q Fence = Unit {0}
 
 -- ---- the answer: "Carrying out the first n steps checks the plan"
 
--- Of a sound image: 7 for a "step count above the plan's whole steps", or what the checker answers. It is the whole plan that is checked, even for n = 0.
-unfoldable pub carryIn : List ℕ → Request → List ℕ → ℕ → Checked
-carryIn s r plan n = cond (ltb (wholeSteps plan) n) (Denied Range) (judged s r plan)
+-- Of what is known, of an image or from any sets: 7 for a "step count above the plan's whole steps", or what the checker answers. It is the whole plan that is checked,
+-- even for n = 0.
+unfoldable pub carryIn : Known → Request → List ℕ → ℕ → Checked
+carryIn kn r plan n = cond (ltb (wholeSteps plan) n) (Denied Range) (judged kn r plan)
 
 -- of any image: "Every entry point first applies 1 to 6 to its image"
 abbrev pub carryAnswer : List ℕ → Request → List ℕ → ℕ → Checked
-carryAnswer s r plan n = ifSound (verdict s) Denied (carryIn s r plan n)
+carryAnswer s r plan n = ifSound (verdict s) Denied (carryIn (knownOf s r) r plan n)
 
 -- "A refusal changes nothing lent": the image that an answer leaves
 abbrev pub leftBy : Checked → List ℕ → List ℕ → ℕ → List ℕ

@@ -1,9 +1,8 @@
 // Carrying a plan out on the image.
 use checker::check::judge;
-use image::MAP_SET_WORDS;
-use image::UNIT_SET_WORDS;
 use image::Verdict;
 use image::load::load;
+use image::maps::is_mapped;
 use layout::Refusal;
 use layout::Shape;
 use layout::geometry::map_word_place;
@@ -13,20 +12,18 @@ use steps::Request;
 use steps::STEP_BYTES;
 use steps::Step;
 use steps::Value;
-use steps::decode::decode_at;
+use steps::reading::step_at;
+use steps::requests::chunk_of;
 use steps::values::word_of;
 ghost use mathlib.Core.Path.{_≡_};
 ghost use mathlib.Core.Bool.{true};
-ghost use Prim.Native.Nat.{_+_, _*_, _≤_};
+ghost use Prim.Native.Nat.{_+_, _*_, _^_, _≤_, _<_};
 ghost use lib.ListN.{length};
-ghost use Rattle.bitset.specs.Bits.{bitSet};
+ghost use Rattle.bitset.specs.Bits.{limit, inSet};
 ghost use Rattle.layout.specs.Shaped.{On};
 ghost use Rattle.layout.specs.Layout.{putWord};
-ghost use Rattle.image.specs.Loading.{unitSetWords, mapSetWords};
-ghost use Rattle.image.specs.Free.{freeUnit, freeMap};
-ghost use Rattle.image.specs.Claims.{Tested};
 ghost use Rattle.steps.specs.Steps.{wordOf, wholeSteps};
-ghost use Rattle.rules.specs.Rules.{inRange, wholeInRange, rule1};
+ghost use Rattle.rules.specs.Rules.{inRange, wholeInRange, rule1, known};
 ghost use Rattle.carry.specs.Carry.{carry as carryOne, carried, carryIn, leftBy, carryAnswer, carryImage};
 ghost use Rattle.carry.specs.Carrying.{carryDecoded};
 
@@ -79,35 +76,40 @@ fn carry_steps(image: &mut [u8], g: Shape, plan: &[u8], n: usize)
 {
     let mut i: usize = 0;
     while i < n {
-        let d = decode_at(plan, i);
+        let d = step_at(plan, i);
         carry_decoded(image, g, d);
         i += 1;
     }
 }
 
-// The answer for a sound image, of which the shape and the free sets are known.
-fn carry_in(
+// Checks a plan and carries its first `n` steps out, for a shape, any sets of free units and maps, and whether the request's chunk is mapped: refusals 7, 8
+// and 11.
+pub fn carry_in(
     image: &mut [u8],
     g: Shape,
-    units: [u64; UNIT_SET_WORDS],
-    maps: [u64; MAP_SET_WORDS],
+    units: &[u64],
+    maps: &[u64],
+    mapped: bool,
     request: Request,
     plan: &[u8],
     n: u64,
 ) -> Checked
     requires { ⌜ On g (now image) ⌝ }
-    requires { ⌜ Tested (now image) ⌝ }
-    requires { ⌜ (units ≡ bitSet (freeUnit (now image)) unitSetWords) × (maps ≡ bitSet (freeMap (now image)) mapSetWords) ⌝ }
-    ensures { λ r. ⌜ r ≡ carryIn (now (image .entry)) request (now (plan .entry)) n ⌝ }
+    requires { ⌜ limit (now units) < 2 ^ 64 ⌝ }
     ensures { λ r. ⌜
-        now (image .exit) ≡ leftBy (carryIn (now (image .entry)) request (now (plan .entry)) n) (now (image .entry)) (now (plan .entry)) n
+        r ≡ carryIn (known g (inSet (now (units .entry))) (inSet (now (maps .entry))) mapped) request (now (plan .entry)) n
+        ⌝ }
+    ensures { λ r. ⌜
+        now (image .exit)
+        ≡ leftBy (carryIn (known g (inSet (now (units .entry))) (inSet (now (maps .entry))) mapped) request (now (plan .entry)) n)
+        (now (image .entry)) (now (plan .entry)) n
         ⌝ }
 {
     let count = (plan.len() / STEP_BYTES) as u64;
     if count < n {
         return Checked::Refused(Refusal::Range);
     }
-    let answer = judge(image, g, units, maps, request, plan);
+    let answer = judge(g, units, maps, mapped, request, plan);
     match answer {
         Checked::Accepted => {
             carry_steps(image, g, plan, n as usize);
@@ -128,9 +130,9 @@ pub fn carry(image: &mut [u8], request: Request, plan: &[u8], n: u64) -> Checked
         Verdict::Refused(x) => Checked::Refused(x),
         Verdict::Passed => {
             let g = l.shape;
-            let units = l.units;
+            let mapped = is_mapped(image, g, chunk_of(request));
             let maps = l.maps;
-            carry_in(image, g, units, maps, request, plan, n)
+            carry_in(image, g, &l.units, &maps, mapped, request, plan, n)
         }
     }
 }

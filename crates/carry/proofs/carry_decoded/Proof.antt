@@ -7,7 +7,9 @@ enum-known-d : tie.Need-enum-known-d
 enum-known-d c = search needs
 
 carry-step-requires : tie.Need-carry-step-requires
-carry-step-requires c κs = (c .before .before .before .before .before .pre .0, rw (c .before .before .d .given .1) at (c .before .before .before .before .before .pre .1))
+carry-step-requires c κs =
+    let st = c .before .before .before .before .before in
+    (st .pre .0, rw (c .before .before .d .given .1) at (st .pre .1))
 
 enum-told : tie.Need-enum-told
 enum-told c = search needs

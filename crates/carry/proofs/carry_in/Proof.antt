@@ -1,33 +1,34 @@
 -- `carry::carry_in` meets its contract: 7 for the step count, then the checker's answer; only an accepted plan is carried out.
-use mathlib.Core.Path.{sym, ap, _∙_}
 use borrow.Author.Needs.{needs}
-use Rattle.layout.specs.declared.Shape.{Shape}
-use Rattle.layout.proofs.Limits.{on-shaped}
-use Rattle.rules.specs.Rules.{rule1}
+use Rattle.bitset.specs.Bits.{inSet}
+use Rattle.layout.proofs.Place.{on-limits}
+use Rattle.rules.specs.Rules.{known}
 use Rattle.carry.proofs.AnswerLaws.{too-many, not-carried, all-carried, keeps-rule1}
 use Rattle.carry.proofs.carry_in.Statement.{statement}
 use Rattle.carry.proofs.carry_in.Tie as tie
 
 returns : tie.Need-returns
 returns c =
-    let a = c .before .before .before .args in
-    too-many (a .image .now) (a .request) (a .plan .now) (a .n) (c .if1 .taken)
+    let a = c .before .before .before .before .before .args in
+    let kn = known (a .g) (inSet (a .units .now)) (inSet (a .maps .now)) (a .mapped) in
+    too-many kn (a .image .now) (a .request) (a .plan .now) (a .n) (c .if1 .taken)
 
 judge-requires : tie.Need-judge-requires
-judge-requires c κs =
-    let a = c .before .before .before .before in
-    (on-shaped (a .args .g) (a .args .image .now) (a .pre .0), a .pre .1 .1)
+judge-requires c κs = let st = c .before .before .before .before .before in (on-limits (st .pre .0), st .pre .1)
 
 enum-told : tie.Need-enum-told
 enum-told c = search needs
 
 carry-steps-requires : tie.Need-carry-steps-requires
 carry-steps-requires c κs =
-    let a = c .before .before .before .before .before .before .before .before in
-    let s = a .args .image .now in
-    let plan = a .args .plan .now in
-    let one = keeps-rule1 s (a .args .request) plan (a .args .n) (c .before .before .before .before .before .if1 .left) (c .before .before .before .judge .result) (c .before .before .before .judge .ensures) (a .pre .1 .0) (c .before .enum-told .given .1) in
-    (a .pre .0, (ap (λ (g : Shape). rule1 g plan) (sym (a .pre .0 .shape)) ∙ one, c .before .before .before .before .before .if1 .left))
+    let judged = c .before .before .before in
+    let counted = judged .before in
+    let st = counted .before .before .before .before .before in
+    let a = st .args in
+    let kn = known (a .g) (inSet (a .units .now)) (inSet (a .maps .now)) (a .mapped) in
+    let kept = keeps-rule1 kn (a .image .now) (a .request) (a .plan .now) (a .n) (counted .if1 .left) in
+    let one = kept (judged .judge .result) (judged .judge .ensures) (c .before .enum-told .given .1) in
+    (st .pre .0, (one, counted .if1 .left))
 
 enum-known-answer : tie.Need-enum-known-answer
 enum-known-answer c = search needs
@@ -37,16 +38,23 @@ same-length c = search needs
 
 returns-2 : tie.Need-returns-2
 returns-2 c =
-    let a = c .before .before .before .before .before .before .before .before .before .before .before .args in
-    all-carried (a .image .now) (a .request) (a .plan .now) (a .n) (c .before .before .before .before .before .before .before .before .if1 .left) (c .before .before .before .before .before .before .judge .result) (c .before .before .before .before .before .before .judge .ensures) (c .before .before .before .before .enum-told .given .1) _ (c .before .before .carry-steps .ensures)
-
-same-length-2 : tie.Need-same-length-2
-same-length-2 c = search needs
+    let done = c .before .before in
+    let told = done .before .before in
+    let judged = told .before .before in
+    let counted = judged .before in
+    let a = counted .before .before .before .before .before .args in
+    let kn = known (a .g) (inSet (a .units .now)) (inSet (a .maps .now)) (a .mapped) in
+    let carried = all-carried kn (a .image .now) (a .request) (a .plan .now) (a .n) (counted .if1 .left) in
+    carried (judged .judge .result) (judged .judge .ensures) (told .enum-told .given .1) _ (done .carry-steps .ensures)
 
 returns-3 : tie.Need-returns-3
 returns-3 c =
-    let a = c .before .before .before .before .before .before .before .before .args in
-    not-carried (a .image .now) (a .request) (a .plan .now) (a .n) (c .before .before .before .before .before .if1 .left) (c .before .before .before .judge .result) (c .before .before .before .judge .ensures) _ (c .before .answer .given .1)
+    let judged = c .before .before .before in
+    let counted = judged .before in
+    let a = counted .before .before .before .before .before .args in
+    let kn = known (a .g) (inSet (a .units .now)) (inSet (a .maps .now)) (a .mapped) in
+    let left = not-carried kn (a .image .now) (a .request) (a .plan .now) (a .n) (counted .if1 .left) in
+    left (judged .judge .result) (judged .judge .ensures) _ (c .before .answer .given .1)
 
 pub carry-in-spec : {M : Type 1} → statement M
 carry-in-spec =
@@ -59,5 +67,4 @@ carry-in-spec =
     enum-known-answer
     same-length
     returns-2
-    same-length-2
     returns-3)

@@ -27,13 +27,15 @@ loop-holds c =
     let a = c .before .before in
     (zero≤, a .pre .0, carry-start (a .args .image .now) (a .args .plan .now) (a .args .n))
 
-decode-at-requires : tie.Need-decode-at-requires Inv-loop μ-loop
-decode-at-requires c κs = omega (arith, c .before .loop .inv .0)
+step-at-requires : tie.Need-step-at-requires Inv-loop μ-loop
+step-at-requires c κs = omega (arith, c .before .loop .inv .0)
 
 carry-decoded-requires : tie.Need-carry-decoded-requires Inv-loop μ-loop
 carry-decoded-requires c κs =
-    let a = c .before .before .before .before .before .before in
-    (c .before .before .before .loop .inv .1, ap (wholeInRange (a .args .g)) (c .before .decode-at .ensures) ∙ step-in (a .args .g) (a .args .plan .now) (a .pre .1 .0) (c .before .before .before .loop .i) (omega arith))
+    let l = c .before .before .before .loop in
+    let st = c .before .before .before .before .before .before in
+    let step = step-in (st .args .g) (st .args .plan .now) (st .pre .1 .0) (l .i) (omega arith) in
+    (l .inv .1, ap (wholeInRange (st .args .g)) (c .before .step-at .ensures) ∙ step)
 
 add-i : tie.Need-add-i Inv-loop μ-loop
 add-i c = search needs
@@ -47,7 +49,7 @@ loop-again c =
     let l = c .before .before .before .before .before .before .loop in
     let plan = a .args .plan .now in
     let step = step-in (a .args .g) plan (a .pre .1 .0) (l .i) (omega arith) in
-    let after = c .before .before .carry-decoded .ensures ∙ ap (carryDecoded (l .image)) (c .before .before .before .before .decode-at .ensures) in
+    let after = c .before .before .carry-decoded .ensures ∙ ap (carryDecoded (l .image)) (c .before .before .before .before .step-at .ensures) in
     let turn = carry-turn (l .image) plan (a .args .n) (a .args .g) (a .pre .1 .0) (a .pre .1 .1) (l .i) (omega arith) in
     (omega arith, subst (On (a .args .g)) (sym after) (on-decoded (a .args .g) (l .image) (l .inv .1) (decodeAt plan (l .i)) step), rw after (turn ∙ l .inv .2))
 
@@ -69,7 +71,7 @@ carry-steps-spec =
     Inv-loop
     μ-loop
     loop-holds
-    decode-at-requires
+    step-at-requires
     carry-decoded-requires
     add-i
     loop-less
