@@ -1,7 +1,7 @@
 -- An accepted plan carried out whole is an event in which every step lands: what it leaves of each chunk's entry and units, and what is free then.
 use Prim.Native.Nat.{ℕ, _<_}
 use mathlib.Core.Path.{_≡_, refl, sym, ap, _∙_, subst}
-use mathlib.Core.Logic.{_≢_}
+use mathlib.Core.Logic.{_≢_, inr}
 use mathlib.Core.Bool.{true, false}
 use mathlib.Core.List.{List}
 use borrow.Author.Tests.{eq-eqb}
@@ -9,6 +9,7 @@ use Rattle.layout.specs.declared.Shape.{Shape}
 use Rattle.layout.specs.Layout.{shapeOf, linkOf}
 use Rattle.image.specs.Soundness.{unitsOf, Sound}
 use Rattle.image.specs.Stored.{storedSize}
+use Rattle.image.specs.Free.{freeUnits}
 use Rattle.image.proofs.Wording.{sound-shape}
 use Rattle.image.proofs.Freed.{freed-unit, freed-map}
 use Rattle.image.proofs.Theorems.{sound-loads}
@@ -16,6 +17,8 @@ use Rattle.steps.specs.declared.Request.{Request}
 use Rattle.steps.specs.Steps.{stepsOf, wholeSteps, chunkOf}
 use Rattle.rules.specs.declared.Checked.the-variants.{Accepted}
 use Rattle.rules.specs.Rules.{checked}
+use Rattle.rules.proofs.Accepting.{accepted-of}
+use Rattle.rules.proofs.Dealing.{dealt-units}
 use Rattle.carry.specs.Carry.{carryImage}
 use Rattle.durable.specs.Events.{Volume, Event, complete, goesAhead, settle, after}
 use Rattle.durable.specs.LoadsBack.{newLink, newSize, newUnits, LoadsBack}
@@ -60,20 +63,23 @@ module _ (g : Shape) (s : List ℕ) (r : Request) (plan : List ℕ) (z : Sound g
   abbrev Own : List ℕ → Type 0
   Own x =
       (linkOf x (chunkOf r) ≡ newLink r (stepsOf plan)) × (storedSize x (chunkOf r) ≡ newSize (shapeOf s) r)
-      × (unitsOf x (chunkOf r) ≡ newUnits r (stepsOf plan))
+      × (unitsOf x (chunkOf r) ≡ newUnits s r)
 
   abbrev Other : ℕ → List ℕ → Type 0
   Other i x = (linkOf x i ≡ linkOf s i) × (storedSize x i ≡ storedSize s i) × (unitsOf x i ≡ unitsOf s i)
 
   own : Own t
-  own = subst Own same (leaves .own whole)
+  own =
+      let k = leaves .own (inr whole) in
+      let two = accepted-of s r plan a .rules .two in
+      subst Own same (k .0, k .1, k .2 ∙ dealt-units (freeUnits s) (stepsOf plan) r two)
 
   others : (i : ℕ) → i < g .c → i ≢ chunkOf r → Other i t
   others i b n =
       subst (Other i) same
       (leaves .others i (subst (λ (h : Shape). i < h .c) (sym (sound-shape g s z)) b) n)
 
-  pub loads-back : LoadsBack g s (chunkOf r) (newLink r (stepsOf plan)) (newSize g r) (newUnits r (stepsOf plan)) (carryImage s r plan (wholeSteps plan))
+  pub loads-back : LoadsBack g s (chunkOf r) (newLink r (stepsOf plan)) (newSize g r) (newUnits s r) (carryImage s r plan (wholeSteps plan))
   loads-back =
       let b = chunk-in g v e d takes in
       record {
@@ -83,6 +89,6 @@ module _ (g : Shape) (s : List ℕ) (r : Request) (plan : List ℕ) (z : Sound g
         stored = own .1 ∙ ap (λ (h : Shape). newSize h r) (sound-shape g s z);
         units = own .2;
         others = others;
-        free-units = freed-unit g s t z sound-now (chunkOf r) b (newUnits r (stepsOf plan)) (own .2) (λ i h n. others i h n .2);
+        free-units = freed-unit g s t z sound-now (chunkOf r) b (newUnits s r) (own .2) (λ i h n. others i h n .2);
         free-maps = freed-map g s t z sound-now (chunkOf r) b (newLink r (stepsOf plan)) (own .0) (λ i h n. others i h n .0);
       }

@@ -6,11 +6,13 @@ use mathlib.Core.Bool.{Bool, true, false, cond}
 use mathlib.Core.List.{List}
 use native.Mathlib.Omega.{arith}
 use lib.ListN.{length, drop}
-use borrow.Author.Tests.{eqb-true, ltb-true}
+use lib.Dec.{eqb}
+use borrow.Author.Tests.{eqb-true, eqb-false, ltb-true}
 use Rattle.layout.specs.declared.Shape.{Shape}
 use Rattle.layout.specs.Layout.{shapeOf, trailerStart, trailerOf}
 use Rattle.search.proofs.Bools.{contradict, either, cond-true, cond-false}
-use Rattle.image.specs.Soundness.{Sound}
+use Rattle.image.specs.Soundness.{unitsOf, Sound}
+use Rattle.image.specs.Free.{freeUnits}
 use Rattle.image.proofs.Order.{Orderly, orderly, orderly-tested}
 use Rattle.image.proofs.Wording.{sound-shape, sound-tested, trailed-sound}
 use Rattle.steps.specs.declared.Step.{Step}
@@ -20,12 +22,14 @@ use Rattle.steps.specs.Encodable.{Each}
 use Rattle.rules.specs.declared.Checked.{Checked}
 use Rattle.rules.specs.declared.Checked.the-variants.{Accepted, Refused}
 use Rattle.rules.specs.Rules.{rule1, checked}
-use Rattle.checker.proofs.Accepting.{Passed, accepted-of}
+use Rattle.rules.proofs.Accepting.{Passed, accepted-of}
+use Rattle.rules.proofs.Dealing.{dealt-units}
 use Rattle.rules.proofs.Places.{at-below, step-there}
 use Rattle.rules.proofs.Wording.{rule1-told}
 use Rattle.carry.specs.Carry.{carryAnswer}
 use Rattle.carry.proofs.AnswerLaws.{answer-accepted, accepted-answer}
-use Rattle.durable.specs.Events.{Volume, Event, Outcome, refused, finished, cut, accepted, goesAhead, lands, complete, settle, linkLands, after, holds, outcome, entry, entered}
+use Rattle.durable.specs.Events.{Volume, Event, Outcome, refused, finished, cut, accepted, goesAhead, lands, complete, settle, linkLands, after, holds, outcome, takesEffect, entry, entered}
+use Rattle.durable.specs.LoadsBack.{newUnits}
 use Rattle.rules.proofs.StepLaws.{InRange, each-in-range}
 use Rattle.durable.proofs.Settle.{settle-trailer}
 use Rattle.durable.proofs.Requests.{Settled, settled-any}
@@ -85,6 +89,18 @@ of-refused false c b h = refl
 of-finished : (c b : Bool) → cond c finished (cut b) ≡ finished → c ≡ true
 of-finished true b h = refl
 of-finished false b h = absurd (cut-open b h)
+
+of-effect : (c b : Bool) → takesEffect (cond c finished (cut b)) ≡ true → (b ≡ true) ⊎ (c ≡ true)
+of-effect true b h = inr refl
+of-effect false b h = inl h
+
+of-quiet : (c b : Bool) → takesEffect (cond c finished (cut b)) ≡ false → (b ≡ false) × (c ≡ false)
+of-quiet true b h = contradict refl h
+of-quiet false b h = (h, refl)
+
+-- an event that takes effect was not refused
+pub effect-ahead : (o : Outcome) → takesEffect o ≡ true → o ≢ refused
+effect-ahead o h q = contradict h (ap takesEffect q)
 
 module _ {A : Type 0} (v : Volume A) (e : Event A) where
   pub after-ahead : goesAhead (v .image) e ≡ true → after v e ≡ settle e 0 (stepsOf (e .plan)) v
@@ -172,6 +188,23 @@ module _ {A : Type 0} (g : Shape) (v : Volume A) (e : Event A) (d : Intact g (v 
         let c : complete e ≡ true = of-finished (complete e) (linkLands e 0 xs) (sym (outcome-ahead v e h) ∙ f) in
         settled .whole c i (all-steps (shapeOf s) (e .plan) (plan .rules .one) i (omega (arith, accepts .1)))
 
+    -- where it takes effect its chunk stands on the lowest units that were free
+    ahead-units : takesEffect (ended v e) ≡ true → unitsOf (t .image) (chunkOf (e .request)) ≡ newUnits s (e .request)
+    ahead-units k =
+        settled .own (of-effect (complete e) (linkLands e 0 xs) k) .2 ∙ dealt-units (freeUnits s) xs (e .request) (plan .rules .two)
+
+    -- and where it does not, or for another chunk, the units are as they were
+    ahead-still : (i : ℕ) → i < g .c → (chunkOf (e .request) ≡ i → takesEffect (ended v e) ≡ false) → unitsOf (t .image) i ≡ unitsOf s i
+    ahead-still i b n = go (either (eqb i (chunkOf (e .request))))
+      where
+        k : i < shapeOf s .c
+        k = subst (λ (q : Shape). i < q .c) (sym (d .order .on .shape)) b
+
+        go : (eqb i (chunkOf (e .request)) ≡ true) ⊎ (eqb i (chunkOf (e .request)) ≡ false) → unitsOf (t .image) i ≡ unitsOf s i
+        go (inl q) =
+            let z = of-quiet (complete e) (linkLands e 0 xs) (n (sym (eqb-true i (chunkOf (e .request)) q))) in settled .still (z .0) (z .1) i k
+        go (inr q) = settled .others i k (eqb-false i (chunkOf (e .request)) q) .2
+
     ahead-holds : (i : ℕ) → i < g .c → holds t i ≡ entered (holds v) (entry e (ended v e)) i
     ahead-holds i b = go (either (complete e)) (either (linkLands e 0 xs))
       where
@@ -195,6 +228,21 @@ module _ {A : Type 0} (g : Shape) (v : Volume A) (e : Event A) (d : Intact g (v 
       go : (goesAhead s e ≡ true) ⊎ (goesAhead s e ≡ false) → Intact g (after v e .image)
       go (inl h) = subst (λ (w : Volume A). Intact g (w .image)) (sym (after-ahead v e h)) (ahead-intact h)
       go (inr h) = subst (λ (w : Volume A). Intact g (w .image)) (sym (after-refused v e h)) d
+
+  pub event-units : takesEffect (outcome s e) ≡ true → unitsOf (after v e .image) (chunkOf (e .request)) ≡ newUnits s (e .request)
+  event-units k =
+      let h = was-ahead v e (outcome s e) refl (effect-ahead (outcome s e) k) in
+      ap (λ (w : Volume A). unitsOf (w .image) (chunkOf (e .request))) (after-ahead v e h)
+      ∙ ahead-units h (ap takesEffect (sym (outcome-ahead v e h)) ∙ k)
+
+  pub event-still : (i : ℕ) → i < g .c → (chunkOf (e .request) ≡ i → takesEffect (outcome s e) ≡ false) → unitsOf (after v e .image) i ≡ unitsOf s i
+  event-still i b n = go (either (goesAhead s e))
+    where
+      go : (goesAhead s e ≡ true) ⊎ (goesAhead s e ≡ false) → unitsOf (after v e .image) i ≡ unitsOf s i
+      go (inl h) =
+          ap (λ (w : Volume A). unitsOf (w .image) i) (after-ahead v e h)
+          ∙ ahead-still h i b (λ q. ap takesEffect (sym (outcome-ahead v e h)) ∙ n q)
+      go (inr h) = ap (λ (w : Volume A). unitsOf (w .image) i) (after-refused v e h)
 
   pub event-reserved : (u : ℕ) → u < g .r → after v e .content u ≡ v .content u
   event-reserved u b = go (either (goesAhead s e))

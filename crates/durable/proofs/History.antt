@@ -8,16 +8,14 @@ use lib.Dec.{eqb}
 use borrow.Author.Tests.{eqb-true, eqb-false, eq-eqb, ne-eqb}
 use Rattle.layout.specs.declared.Shape.{Shape}
 use Rattle.search.proofs.Bools.{contradict, either, and-intro, and-false-left, and-false-right, cond-true, cond-false}
-use Rattle.image.specs.Soundness.{Sound}
+use Rattle.image.specs.Soundness.{unitsOf, Sound}
 use Rattle.steps.specs.Steps.{chunkOf}
 use Rattle.durable.specs.Events.{Volume, Event, Outcome, refused, finished, cut, after, run, holds, newPieces, outcome, takesEffect, entry, entries, entered, ledger}
 use Rattle.durable.specs.Demand.{Untouched, KeptFromSound}
-use Rattle.durable.proofs.Effect.{Intact, sound-intact, intact-sound, cut-ahead, finished-ahead, after-refused, was-ahead, was-refused, chunk-in, landed-whole, event-intact, event-reserved, event-holds}
+use Rattle.durable.specs.LoadsBack.{StandsOnLowest}
+use Rattle.durable.proofs.Effect.{Intact, sound-intact, intact-sound, cut-ahead, finished-ahead, after-refused, effect-ahead, was-ahead, was-refused}
+use Rattle.durable.proofs.Effect.{chunk-in, landed-whole, event-intact, event-units, event-still, event-reserved, event-holds}
 use Rattle.durable.proofs.Carrying.{as-carry}
-
--- an event that takes effect was not refused
-effect-ahead : (o : Outcome) → takesEffect o ≡ true → o ≢ refused
-effect-ahead o h q = contradict (sym (ap takesEffect q) ∙ h) refl
 
 module _ {A : Type 0} where
   -- ---- the ledger's entries
@@ -111,6 +109,15 @@ module _ {A : Type 0} where
         go (inl q) = entered-not (holds v) e (outcome (v .image) e) c (untouched-head c v e es h (sym (eqb-true c (chunkOf (e .request)) q)))
         go (inr q) = entered-other (holds v) e (outcome (v .image) e) c (eqb-false c (chunkOf (e .request)) q)
 
+    run-still :
+        (c : ℕ) → c < g .c → (v : Volume A) (es : List (Event A)) → Intact g (v .image) → Untouched c v es
+        → unitsOf (run v es .image) c ≡ unitsOf (v .image) c
+    run-still c b v [] d h = ap (λ (w : Volume A). unitsOf (w .image) c) (run-nil v)
+    run-still c b v (e ∷ es) d h =
+        ap (λ (w : Volume A). unitsOf (w .image) c) (run-cons v e es)
+        ∙ run-still c b (after v e) es (event-intact g v e d) (untouched-tail c v e es h)
+        ∙ event-still g v e d c b (untouched-head c v e es h)
+
     -- what an event leaves to its own chunk, by its outcome
     pub own-holds :
         (v : Volume A) (e : Event A) → Intact g (v .image) → (o : Outcome) → outcome (v .image) e ≡ o → o ≢ refused
@@ -151,3 +158,15 @@ kept-from-sound A g start l es z h = record {
 
     end : Sound g (run start es .image)
     end = intact-sound g (run start es .image) (then es)
+
+-- ---- the units of a chunk, until a later plan takes effect on it
+
+pub units-stay : StandsOnLowest
+units-stay A g start past later e z o u =
+    let v = run start past in
+    let d : Intact g (v .image) = run-intact g start past (sound-intact g (start .image) z) in
+    let n = effect-ahead (outcome (v .image) e) o in
+    let c = chunk-in g v e d (was-ahead v e (outcome (v .image) e) refl n) in
+    ap (λ (w : Volume A). unitsOf (w .image) (chunkOf (e .request))) (run-append start past (e ∷ later) ∙ run-cons v e later)
+    ∙ run-still g (chunkOf (e .request)) c (after v e) later (event-intact g v e d) u
+    ∙ event-units g v e d o

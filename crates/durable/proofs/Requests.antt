@@ -9,7 +9,7 @@ use lib.ListN.{length}
 use lib.Dec.{eqb}
 use borrow.Author.Tests.{eqb-true, eqb-false, ltb-true}
 use Rattle.layout.specs.declared.Shape.{Shape}
-use Rattle.search.specs.Search.{from}
+use Rattle.search.specs.Search.{from, below}
 use Rattle.layout.specs.Layout.{X, mapWords, shapeOf, linkOf, unitsFor}
 use Rattle.image.specs.Soundness.{mapped, unitsOf}
 use Rattle.image.specs.Stored.{storedSize}
@@ -20,15 +20,15 @@ use Rattle.image.proofs.Storing.{stored-unmapped, kept-none}
 use Rattle.steps.specs.declared.Step.{Step}
 use Rattle.steps.specs.declared.Request.{Request}
 use Rattle.steps.specs.declared.Request.the-variants.{Write, Discard}
-use Rattle.steps.specs.Steps.{stepsOf, chunkOf}
+use Rattle.steps.specs.Steps.{stepsOf, chunkOf, needOf}
 use Rattle.rules.specs.Rules.{links, isNone, endsIn, planMap, unitOf}
-use Rattle.checker.proofs.Accepting.{Passed}
+use Rattle.rules.proofs.Accepting.{Passed}
 use Rattle.steps.specs.Encodable.{Each}
 use Rattle.steps.proofs.Codec.{each-map}
 use Rattle.rules.proofs.StepLaws.{InRange, Links, OnLink, on-links, each-in-range}
 use Rattle.rules.proofs.Facts.{Writes, writes, Discards, discards, discards-nothing}
 use Rattle.durable.specs.Events.{Volume, Event, lands, complete, settle, linkLands, holds, newPieces}
-use Rattle.durable.specs.LoadsBack.{newLink, newSize, newUnits}
+use Rattle.durable.specs.LoadsBack.{newLink, newSize}
 use Rattle.durable.proofs.Settle.{Solid, settle-nil, set-content, keep-content}
 use Rattle.durable.proofs.Linking.{linkLandsOn, lands-own, lands-other, set-link}
 use Rattle.durable.proofs.Fences.{solid, complete-link, all-landed}
@@ -36,6 +36,10 @@ use Rattle.durable.proofs.Careful.{Careful, careful-write, careful-disc
 use Rattle.durable.proofs.Core.{still, still-units, still-size, still-holds}
 use Rattle.durable.proofs.Jobs.{Job, puts, clears, given, dealt, kept, job-units, job-size, job-holds, jobs-orderly}
 use Rattle.layout.proofs.Limits.{fitting-limits, map-words}
+
+-- the units of pieces 0 to k-1, in that order; none for a discard
+abbrev pub planUnits : Request → List Step → List ℕ
+planUnits r xs = map (λ j. unitOf j xs) (below (needOf r))
 
 module _ {A : Type 0} (v : Volume A) (e : Event A) (d : Orderly (shapeOf (v .image)) (v .image)) where
   abbrev s : List ℕ
@@ -60,10 +64,12 @@ module _ {A : Type 0} (v : Volume A) (e : Event A) (d : Orderly (shapeOf (v .ima
     -- what the reserved units hold
     pub reserved : (u : ℕ) → u < shapeOf (v .image) .r → settle e 0 (stepsOf (e .plan)) v .content u ≡ v .content u
     -- the entry, the stored size and the units of the request's chunk, and of every other
-    pub own : complete e ≡ true
+    pub own : (linkLands e 0 (stepsOf (e .plan)) ≡ true) ⊎ (complete e ≡ true)
         → (linkOf (settle e 0 (stepsOf (e .plan)) v .image) (chunkOf r) ≡ newLink r (stepsOf (e .plan)))
         × (storedSize (settle e 0 (stepsOf (e .plan)) v .image) (chunkOf r) ≡ newSize (shapeOf (v .image)) r)
-        × (unitsOf (settle e 0 (stepsOf (e .plan)) v .image) (chunkOf r) ≡ newUnits r (stepsOf (e .plan)))
+        × (unitsOf (settle e 0 (stepsOf (e .plan)) v .image) (chunkOf r) ≡ planUnits r (stepsOf (e .plan)))
+    pub still : linkLands e 0 (stepsOf (e .plan)) ≡ false → complete e ≡ false → (i : ℕ) → i < shapeOf (v .image) .c
+        → unitsOf (settle e 0 (stepsOf (e .plan)) v .image) i ≡ unitsOf (v .image) i
     pub others : (i : ℕ) → i < shapeOf (v .image) .c → i ≢ chunkOf r
         → (linkOf (settle e 0 (stepsOf (e .plan)) v .image) i ≡ linkOf (v .image) i)
         × (storedSize (settle e 0 (stepsOf (e .plan)) v .image) i ≡ storedSize (v .image) i)
@@ -74,7 +80,7 @@ module _ {A : Type 0} (v : Volume A) (e : Event A) (d : Orderly (shapeOf (v .ima
   module _ (r : Request) (b : chunkOf r < g .c) (k : Careful g s xs) (l : Each (OnLink (chunkOf r) (newLink r xs)) xs) (a : isNone (links xs) ≡ false)
       (ends : endsIn false xs ≡ true) (job : linkLands e 0 xs ≡ true → Job v e xs (chunkOf r))
       (right : (p : linkLands e 0 xs ≡ true)
-      → (given (job p) ≡ newPieces r (e .payload)) × (kept (job p) ≡ newSize g r) × (dealt (job p) ≡ newUnits r xs)) where
+      → (given (job p) ≡ newPieces r (e .payload)) × (kept (job p) ≡ newSize g r) × (dealt (job p) ≡ planUnits r xs)) where
     abbrev c : ℕ
     c = chunkOf r
 
@@ -124,11 +130,12 @@ module _ {A : Type 0} (v : Volume A) (e : Event A) (d : Orderly (shapeOf (v .ima
       new = λ p i q. moved (some p) i q (either (eqb i c));
       whole = all;
       reserved = λ u q. keep-content e u 0 xs v (k .reserved u q);
-      own = λ p. let q : linkLands e 0 xs ≡ true = some (inr p) in (
+      own = λ p. let q : linkLands e 0 xs ≡ true = some p in (
         set-link e g c b w 0 xs v (d .on) (k .range) (each-map (OnLink c w) (Links c w) xs (on-links c w) l) (lands-here ∙ q),
         job-size v e d k c b (lands-here ∙ q) (job q) ∙ right q .1,
         job-units v e d k c b (lands-here ∙ q) (job q) ∙ right q .2,
       );
+      still = λ p z i q. still-units v e d k i q (still-quiet i p (either (eqb i c)));
       others = λ i q n. (
         still v e d k i q (lands-elsewhere i n),
         still-size v e d k i q (lands-elsewhere i n),
@@ -165,6 +172,7 @@ module _ {A : Type 0} (v : Volume A) (e : Event A) (d : Orderly (shapeOf (v .ima
       ap (λ (w : Volume A). storedSize (w .image) c) same ∙ stored-unmapped s c m ∙ sym (kept-none g),
       ap (λ (w : Volume A). unitsOf (w .image) c) same ∙ units-unmapped s c m,
     );
+    still = λ p q i b. ap (λ (w : Volume A). unitsOf (w .image) i) same;
     others = λ i b q. (
       ap (λ (w : Volume A). linkOf (w .image) i) same,
       ap (λ (w : Volume A). storedSize (w .image) i) same,

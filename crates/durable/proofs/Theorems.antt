@@ -24,21 +24,21 @@ use Rattle.steps.specs.declared.Request.the-variants.{Write, Discard}
 use Rattle.steps.specs.Steps.{wholeSteps, stepsOf, chunkOf, needOf, encodeAll}
 use Rattle.steps.proofs.Codec.{whole-encoded}
 use Rattle.rules.specs.declared.Checked.the-variants.{Accepted}
-use Rattle.rules.specs.Rules.{checked, planMap}
+use Rattle.rules.specs.Rules.{knownOf, checked, planMap}
 use Rattle.rules.specs.Reading.{GoodRequest}
 use Rattle.rules.proofs.Good.{chunk-tested, size-tested}
 use Rattle.carry.specs.Carry.{carryImage}
 use Rattle.planner.specs.Planner.{planOf}
-use Rattle.planner.proofs.Accepted.{planned-accepted, plan-map, plan-pieces, plan-read}
+use Rattle.planner.proofs.Accepted.{planned-accepted, plan-map, plan-read}
 use Rattle.planner.proofs.Theorems.{answered, written-is-plan}
 use Rattle.durable.specs.Events.{Volume, finished, holds}
 use Rattle.durable.specs.Demand.{Demand, DemandAfterRepair}
 use Rattle.durable.specs.Own.{ownEvent, OwnDelivers}
-use Rattle.durable.specs.LoadsBack.{LoadsBack, newSize, newUnits, PlansLoadBack, ownLink, ownUnits, OwnLoadsBack, WrittenLoadsBack}
+use Rattle.durable.specs.LoadsBack.{LoadsBack, newSize, newUnits, PlansLoadBack, StandsOnLowest, ownLink, OwnLoadsBack, WrittenLoadsBack}
 use Rattle.durable.proofs.Careful.{holds-is}
 use Rattle.durable.proofs.Effect.{sound-intact, whole-finished, finished-ahead}
 use Rattle.durable.proofs.Back.{loads-back}
-use Rattle.durable.proofs.History.{kept-from-sound, own-holds, entered-own}
+use Rattle.durable.proofs.History.{kept-from-sound, own-holds, entered-own, units-stay}
 
 -- Demand 3: the instance of `kept-from-sound` on a fresh volume, whose chunks hold nothing.
 pub demand : Demand
@@ -65,7 +65,7 @@ good-here g s r z k = subst (λ (q : Shape). GoodRequest q r) (sym (sound-shape 
 
 own-accepted :
     (g : Shape) (s : List ℕ) (r : Request) → Sound g s → GoodRequest g r → needOf r ≤ length (freeUnits s)
-    → checked s r (encodeAll (planOf s r)) ≡ Accepted
+    → checked s r (encodeAll (planOf (knownOf s r) r)) ≡ Accepted
 own-accepted g s r z k h =
     planned-accepted s r (sound-tested g s z) (chunk-tested (shapeOf s) r (good-here g s r z k)) (size-tested (shapeOf s) r (good-here g s r z k)) h
 
@@ -74,16 +74,20 @@ pub own-delivers : OwnDelivers
 own-delivers A g v r payload z k h =
     let s = v .image in
     let e = ownEvent v r payload in
-    let plan = encodeAll (planOf s r) in
+    let plan = encodeAll (planOf (knownOf s r) r) in
     let f = whole-finished v e (own-accepted g s r z k h) (eq-eqb (wholeSteps plan) (wholeSteps plan) refl) in
     (f, own-holds g v e (sound-intact g s z) finished f finished-ahead ∙ entered-own (holds v) e finished refl)
 
 -- ---- "what is written loads back as what was meant"
 
--- An accepted plan from any hand, carried out whole, leaves its chunk on the plan's map and units, every other as it was, and the chunk's old units
--- and map free.
+-- An accepted plan from any hand, carried out whole, leaves its chunk on the plan's map and the lowest free units, every other as it was, and the chunk's
+-- old units and map free.
 pub plans-load-back : PlansLoadBack
 plans-load-back = loads-back
+
+-- The units, over every list of events, cuts among them.
+pub stands-on-lowest : StandsOnLowest
+stands-on-lowest = units-stay
 
 -- The planner's own: the lowest free map and the lowest free units of the image, or an unmapped chunk.
 pub own-loads-back : OwnLoadsBack
@@ -93,19 +97,19 @@ own-loads-back g s (Write i size) z k h =
     let good = good-here g s (Write i size) z k in
     let gc = chunk-tested (shapeOf s) (Write i size) good in
     let gs = size-tested (shapeOf s) (Write i size) good in
-    let plan = encodeAll (planOf s (Write i size)) in
-    let read = plan-read s i size t gc gs h in
-    let left = carryImage s (Write i size) plan (wholeSteps plan) in
-    subst (λ (us : List ℕ). LoadsBack g s i (firstOr X (freeMaps s)) (newSize g (Write i size)) us left) (ap (newUnits (Write i size)) read ∙ plan-pieces s i size t gc gs h)
-    (subst (λ (l : ℕ). LoadsBack g s i l (newSize g (Write i size)) (newUnits (Write i size) (stepsOf plan)) left) (ap planMap read ∙ plan-map s i size t gc gs h)
-    (loads-back g s (Write i size) plan z (own-accepted g s (Write i size) z k h)))
-own-loads-back g s (Discard i) z k h = loads-back g s (Discard i) (encodeAll (planOf s (Discard i))) z (own-accepted g s (Discard i) z k h)
+    let r = Write i size in
+    let plan = encodeAll (planOf (knownOf s r) r) in
+    let left = carryImage s r plan (wholeSteps plan) in
+    subst (λ (l : ℕ). LoadsBack g s i l (newSize g r) (newUnits s r) left) (ap planMap (plan-read s i size t gc gs h) ∙ plan-map s i size t gc gs h)
+    (loads-back g s r plan z (own-accepted g s r z k h))
+own-loads-back g s (Discard i) z k h =
+    let r = Discard i in loads-back g s r (encodeAll (planOf (knownOf s r) r)) z (own-accepted g s r z k h)
 
 -- And by the calls: the planner's answer, what it wrote, and what carrying it out leaves.
 pub written-loads-back : WrittenLoadsBack
 written-loads-back g s r out n z e =
     let a = answered s r (length out) n e in
-    let plan = encodeAll (planOf s r) in
-    let count : wholeSteps plan ≡ n = whole-encoded (planOf s r) ∙ sym (a .steps) in
-    subst (LoadsBack g s (chunkOf r) (ownLink s r) (newSize g r) (ownUnits s r)) (ap₂ (carryImage s r) (sym (written-is-plan s r out n e)) count)
+    let plan = encodeAll (planOf (knownOf s r) r) in
+    let count : wholeSteps plan ≡ n = whole-encoded (planOf (knownOf s r) r) ∙ sym (a .steps) in
+    subst (LoadsBack g s (chunkOf r) (ownLink s r) (newSize g r) (newUnits s r)) (ap₂ (carryImage s r) (sym (written-is-plan s r out n e)) count)
     (own-loads-back g s r z (subst (λ (q : Shape). GoodRequest q r) (sound-shape g s z) (a .good .request)) (a .free))

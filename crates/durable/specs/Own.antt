@@ -8,6 +8,7 @@ use Rattle.image.specs.Soundness.{Sound}
 use Rattle.image.specs.Free.{freeUnits}
 use Rattle.steps.specs.declared.Request.{Request}
 use Rattle.steps.specs.Steps.{wholeSteps, chunkOf, needOf, encodeAll}
+use Rattle.rules.specs.Rules.{knownOf}
 use Rattle.rules.specs.Reading.{GoodRequest}
 use Rattle.planner.specs.Planner.{planOf}
 use Rattle.durable.specs.Events.{Volume, Event, holds, after, newPieces, finished, outcome}
@@ -15,7 +16,7 @@ use Rattle.durable.specs.Events.{Volume, Event, holds, after, newPieces,
 -- the planner's plan for a request, with n all its steps; what lands is left to its fences alone
 abbrev pub ownEvent : {A : Type 0} → Volume A → Request → (ℕ → A) → Event A
 ownEvent v r payload =
-    let plan = encodeAll (planOf (v .image) r) in
+    let plan = encodeAll (planOf (knownOf (v .image) r) r) in
     record { request = r; payload = payload; plan = plan; count = wholeSteps plan; landed = λ i. false; left = payload }
 
 -- on any sound volume, for every good request that the free units suffice for
