@@ -37,18 +37,25 @@ reserved3 =
     ∷ cuts (write1 ∷ write2 ∷ []) write3 8 0 (5 ∷ [])
     -- rule 1 still says "units below N": DATA on a reserved unit breaks rule 2, and a map that names one rule 3
     ∷ checks [] write1 (planNaming 3 4 3 4) 0 0
-    ∷ checks [] write1 (planNaming 19 3 19 3) 0 0
+    ∷ checks [] write1 (planNaming 0 1 0 1) 11 2
     ∷ checks [] write1 (planNaming 2 3 2 3) 11 2
     ∷ checks [] write1 (planNaming 3 0 3 0) 11 2
     ∷ checks [] write1 (planNaming 3 4 2 4) 11 3
     ∷ checks [] write1 (planNaming 3 4 3 0) 11 3
     ∷ checks [] write1 (planNaming 20 3 20 3) 11 1
+    -- unit 19 is free, and not the second lowest (request 6)
+    ∷ checks [] write1 (planNaming 3 19 3 19) 11 2
     -- "a named map with one gives 5", before any 6: word 4 is the size of map 0, words 5 to 8 name its units, word 3 is chunk 3's entry
     ∷ unsound (write1 ∷ []) ((5, 2) ∷ []) (BadMap 2) 5 2 0
     ∷ unsound (write1 ∷ []) ((6, 2) ∷ []) (BadMap 2) 5 2 0
     ∷ unsound (write1 ∷ []) ((4, 12288) ∷ (7, 0) ∷ []) (BadMap 2) 5 2 0
     ∷ unsound (write1 ∷ []) ((3, 0) ∷ (6, 2) ∷ []) (BadMap 2) 5 2 0
     ∷ []
+
+-- a write of one byte to chunk 1 on one unit and map 1
+abbrev pub planOnOne : ℕ → List Step
+planOnOne u =
+    Data u 0 0 ∷ Map 1 0 (Number 1) ∷ Map 1 1 (Number u) ∷ Map 1 2 Absent ∷ Map 1 3 Absent ∷ Map 1 4 Absent ∷ Fence ∷ Link 1 (Number 1) ∷ Fence ∷ []
 
 -- all reserved but the units of one chunk, "N-P": 9's place does not count the reserved ones
 abbrev pub reserved16 : List Case
@@ -58,4 +65,7 @@ reserved16 =
     ∷ shows (Write 0 16384 ∷ []) 0 (from 16 4)
     ∷ lacks (Write 0 16384 ∷ []) (Write 1 1) 0
     ∷ lacks (Write 0 8192 ∷ []) (Write 1 12288) 2
+    -- with no unit free no plan keeps rule 2, "Refusal 9 isn't given here": on unit 0, and on unit 16, which chunk 0 holds
+    ∷ checks (Write 0 16384 ∷ []) (Write 1 1) (planOnOne 0) 11 2
+    ∷ checks (Write 0 16384 ∷ []) (Write 1 1) (planOnOne 16) 11 2
     ∷ []

@@ -30,7 +30,7 @@ use Rattle.steps.specs.declared.Request.the-variants.{Write, Discard}
 use Rattle.steps.specs.Steps.{stepBytes, encodeAll}
 use Rattle.rules.specs.declared.Checked.{Checked}
 use Rattle.rules.specs.declared.Checked.the-variants.{Accepted, Refused as Denied}
-use Rattle.rules.specs.Rules.{checked}
+use Rattle.rules.specs.Rules.{knownOf, checked}
 use Rattle.planner.specs.declared.Planned.the-variants.{Steps, Refused as Unplanned}
 use Rattle.planner.specs.Planner.{planOf, planAnswer}
 use Rattle.carry.specs.Carry.{carryImage}
@@ -42,9 +42,12 @@ use Rattle.durable.specs.Events.{Volume, Event, holds, after}
 abbrev pub volume : List ℕ
 volume = formatImage (edition1 4 4 5 20) (replicate 224 0)
 
--- the planner's plan for a request
+-- the steps of the planner's plan for a request, and their bytes
+abbrev pub stepsFor : List ℕ → Request → List Step
+stepsFor s r = planOf (knownOf s r) r
+
 abbrev pub planFor : List ℕ → Request → List ℕ
-planFor s r = encodeAll (planOf s r)
+planFor s r = encodeAll (stepsFor s r)
 
 -- the image after the first n steps of it are carried out
 abbrev pub partly : List ℕ → Request → ℕ → List ℕ
@@ -53,7 +56,7 @@ partly s r n = carryImage s r (planFor s r) n
 -- the image after some requests, the planner's plan for each carried out whole
 unfoldable pub done : List ℕ → List Request → List ℕ
 done s [] = s
-done s (r ∷ rs) = done (partly s r (length (planOf s r))) rs
+done s (r ∷ rs) = done (partly s r (length (stepsFor s r))) rs
 
 -- the planner's plan for a request cut at point n; `landed` says which steps since the last FENCE passed landed
 abbrev pub cutAt : List ℕ → Request → ℕ → (ℕ → Bool) → Event ℕ
@@ -123,7 +126,7 @@ module _ (start : List ℕ) where
 
   abbrev pub Right : Case → Type 0
   Right (free rs us ks) = (members (loaded (left rs) .units) ≡ us) × (members (loaded (left rs) .maps) ≡ ks)
-  Right (plans rs r xs) = (planAnswer (left rs) r (stepBytes * length xs) ≡ Steps (length xs)) × (planOf (left rs) r ≡ xs)
+  Right (plans rs r xs) = (planAnswer (left rs) r (stepBytes * length xs) ≡ Steps (length xs)) × (stepsFor (left rs) r ≡ xs)
   Right (refuses r x k) = (planAnswer start r planRoom ≡ Unplanned x) × (checked start r [] ≡ Denied x) × (refusalNumber x ≡ k) × (refusalPlace x ≡ 0)
   Right (takes size k) = planAnswer start (Write 0 size) planRoom ≡ Steps (k + mapWords (shapeOf start) + 3)
   Right (stores rs i size) = storedSize (left rs) i ≡ size
@@ -169,6 +172,11 @@ steps3 u w = Data u 0 0 ∷ Data w 1 0 ∷ Map 2 0 (Number u) ∷ Map 2 1 (Numbe
 abbrev pub plan3 : List Step
 plan3 = steps3 3 4 ++ (Fence ∷ Link 0 (Number 2) ∷ Fence ∷ [])
 
+-- the same on map 4, which is free too, piece 1 first
+abbrev pub otherPlan3 : List Step
+otherPlan3 =
+    Data 4 1 0 ∷ Data 3 0 0 ∷ Map 4 0 (Number 3) ∷ Map 4 1 (Number 4) ∷ Map 4 2 Absent ∷ Map 4 3 Absent ∷ Fence ∷ Link 0 (Number 4) ∷ Fence ∷ []
+
 abbrev pub table : List Case
 table =
     -- "fresh: free units 0 to 19, maps 0 to 4"
@@ -205,9 +213,15 @@ table =
     -- "LINK before the fence", "No last FENCE": 11, rule 5
     ∷ checks (write1 ∷ write2 ∷ []) write3 (steps3 3 4 ++ (Link 0 (Number 2) ∷ Fence ∷ [])) 11 5
     ∷ checks (write1 ∷ write2 ∷ []) write3 (steps3 3 4 ++ (Fence ∷ Link 0 (Number 2) ∷ [])) 11 5
-    -- "Old units counted free for the write that replaces them": 11, rule 2, where the new plan is on unit 2. On free units 5 and 4, which are not the lowest, it passes.
+    -- "Old units counted free for the write that replaces them": 11, rule 2, where the new plan is on unit 2.
     ∷ checks (write1 ∷ write2 ∷ []) write3 (steps3 2 3 ++ (Fence ∷ Link 0 (Number 2) ∷ Fence ∷ [])) 11 2
-    ∷ checks (write1 ∷ write2 ∷ []) write3 (steps3 5 4 ++ (Fence ∷ Link 0 (Number 2) ∷ Fence ∷ [])) 0 0
+    -- "A plan on other free units, accepted until now, gives 11 with rule 2" (02, request 6): units 5 and 4, units 3 and 5, and the lowest two in another order.
+    ∷ checks (write1 ∷ write2 ∷ []) write3 (steps3 5 4 ++ (Fence ∷ Link 0 (Number 2) ∷ Fence ∷ [])) 11 2
+    ∷ checks (write1 ∷ write2 ∷ []) write3 (steps3 3 5 ++ (Fence ∷ Link 0 (Number 2) ∷ Fence ∷ [])) 11 2
+    ∷ checks (write1 ∷ write2 ∷ []) write3 (steps3 4 3 ++ (Fence ∷ Link 0 (Number 2) ∷ Fence ∷ [])) 11 2
+    -- "The choice of map stays free.", and so does the order of the DATA steps.
+    ∷ checks (write1 ∷ write2 ∷ []) write3 plan3 0 0
+    ∷ checks (write1 ∷ write2 ∷ []) write3 otherPlan3 0 0
     -- "dead maps leak units": map 1, which no chunk names any more, still says unit 2. That unit is free above, and the next write takes it.
     ∷ plans (write1 ∷ write2 ∷ write3 ∷ []) (Write 3 1)
     (Data 2 0 0 ∷ Map 1 0 (Number 2) ∷ Map 1 1 Absent ∷ Map 1 2 Absent ∷ Map 1 3 Absent ∷ Fence ∷ Link 3 (Number 1) ∷ Fence ∷ [])
