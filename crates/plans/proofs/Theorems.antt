@@ -16,11 +16,11 @@ use Rattle.layout.specs.Layout.{shapeOf}
 use Rattle.image.specs.Verdicts.{verdict}
 use Rattle.image.specs.Answers.{ifSound}
 use Rattle.steps.specs.declared.Request.{Request}
-use Rattle.steps.specs.Steps.{wholeSteps}
+use Rattle.steps.specs.Steps.{wholeSteps, goodChunk, goodSize}
 use Rattle.rules.specs.declared.Checked.{Checked}
 use Rattle.rules.specs.declared.Checked.the-variants.{Refused as Denied}
 use Rattle.rules.proofs.Deciding.{broken-1}
-use Rattle.rules.specs.Rules.{rule1, knownOf, goodChunk, goodSize, judged, checked}
+use Rattle.rules.specs.Rules.{Known, rule1, knownOf, judged, checked}
 use Rattle.carry.specs.Carry.{carryIn, carryAnswer}
 use Rattle.plans.specs.LongPlans.{readOf, askedOf}
 
@@ -31,11 +31,11 @@ too-long g plan h =
     and-false-left (eqb (length plan % 16) 0 && leb (wholeSteps plan) 64) _
     (and-false-right (eqb (length plan % 16) 0) (leb (wholeSteps plan) 64) (lt-leb (wholeSteps plan) 64 h))
 
-module _ (s : List ℕ) (r : Request) (plan : List ℕ) where
-  long-judged : 64 < wholeSteps plan
-      → judged s r plan ≡ cond (goodChunk (shapeOf s) r) (cond (goodSize (shapeOf s) r) (Denied (BadPlan 1)) (Denied Size)) (Denied Range)
-  unfolding judged
-  long-judged h = rw (← broken-1 (knownOf s r) r plan (too-long (shapeOf s) plan h))
+long-judged :
+    (kn : Known) (r : Request) (plan : List ℕ) → 64 < wholeSteps plan
+    → judged kn r plan ≡ cond (goodChunk (kn .shape) r) (cond (goodSize (kn .shape) r) (Denied (BadPlan 1)) (Denied Size)) (Denied Range)
+unfolding judged
+long-judged kn r plan h = rw (← broken-1 kn r plan (too-long (kn .shape) plan h))
 
 module _ (plan : List ℕ) (long : 1040 ≤ length plan) where
   read-steps : wholeSteps (readOf plan) ≡ 65
@@ -45,8 +45,9 @@ module _ (plan : List ℕ) (long : 1040 ≤ length plan) where
   many-steps = omega arith
 
   module _ (s : List ℕ) (r : Request) where
-    read-judged : judged s r plan ≡ judged s r (readOf plan)
-    read-judged = long-judged s r plan (omega (arith, many-steps)) ∙ sym (long-judged s r (readOf plan) (omega (arith, read-steps)))
+    read-judged : judged (knownOf s r) r plan ≡ judged (knownOf s r) r (readOf plan)
+    read-judged =
+        long-judged (knownOf s r) r plan (omega (arith, many-steps)) ∙ sym (long-judged (knownOf s r) r (readOf plan) (omega (arith, read-steps)))
 
     pub long-checked : checked s r plan ≡ checked s r (readOf plan)
     unfolding checked

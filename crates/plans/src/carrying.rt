@@ -18,7 +18,7 @@ use steps::Found;
 use steps::Request;
 use steps::STEP_BYTES;
 use steps::Step;
-use steps::reading::found_at;
+use steps::reading::next_of;
 ghost use mathlib.Core.Path.{_≡_};
 ghost use Prim.Native.Nat.{_≤_};
 ghost use Rattle.layout.specs.Layout.{maxImageBytes};
@@ -58,7 +58,7 @@ fn is_link(d: Decoded) -> bool {
 }
 
 fn links_at(plan: &[u8], i: u64) -> bool {
-    let found = found_at(plan, i as usize);
+    let found = next_of(plan, i as usize);
     match found {
         Found::Next(d) => is_link(d),
         Found::End => false,

@@ -23,7 +23,7 @@ use steps::Request;
 use steps::STEP_BYTES;
 use steps::Step;
 use steps::Value;
-use steps::decode::decode_at;
+use steps::reading::step_at;
 ghost use mathlib.Core.Path.{_≡_};
 ghost use lib.ListN.{length};
 ghost use Rattle.planner.specs.Planner.{planAnswer, planOut};
@@ -84,7 +84,7 @@ fn step_lines(plan: &[u8], head: u32) {
     let whole = plan.len() / STEP_BYTES;
     let mut i: usize = 0;
     while i < whole {
-        let d = decode_at(plan, i);
+        let d = step_at(plan, i);
         step_line(d, head);
         i += 1;
     }
