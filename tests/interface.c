@@ -138,6 +138,46 @@ static void worked_cases(void)
     is("and chunk 3", shared.second, 3);
 }
 
+/* A write of two pieces to chunk 0, which holds unit 2, chunk 2 holding units 0, 1: of all pairs of units only the lowest free ones pass, in order, and of the
+ * maps every free one. Until request 6 every pair of different free units did. */
+static void lowest_units(void)
+{
+    uint8_t image[IMAGE], before[IMAGE], plan[9 * 16], other[9 * 16];
+    sumbilak_format(image, IMAGE, P, C, M, N);
+    write_chunk(image, 2, 6144, 0);
+    write_chunk(image, 0, 3072, 0);
+    memcpy(before, image, IMAGE);
+    is("plan", sumbilak_plan_write(image, IMAGE, 0, 5120, plan, sizeof plan).value, 9);
+
+    memcpy(other, plan, sizeof plan);
+    for (uint8_t u = 0; u < N; u++)
+        for (uint8_t v = 0; v < N; v++) {
+            other[4] = other[2 * 16 + 12] = u;
+            other[16 + 4] = other[3 * 16 + 12] = v;
+            sumbilak_answer a = sumbilak_check_write(image, IMAGE, 0, 5120, other, sizeof other);
+            is("a pair of units", a.number * 10 + a.place, u == 3 && v == 4 ? 0 : 112);
+        }
+
+    memcpy(other, plan, sizeof plan);
+    for (uint8_t m = 0; m < M; m++) {
+        for (size_t i = 0; i < P; i++)
+            other[(2 + i) * 16 + 4] = m;
+        other[7 * 16 + 12] = m;
+        sumbilak_answer a = sumbilak_check_write(image, IMAGE, 0, 5120, other, sizeof other);
+        is("a map", a.number * 10 + a.place, m < 2 ? 113 : 0);
+    }
+
+    memcpy(other, plan + 16, 16); /* piece 1 first */
+    memcpy(other + 16, plan, 16);
+    memcpy(other + 32, plan + 32, sizeof plan - 32);
+    is("another order of DATA steps", sumbilak_check_write(image, IMAGE, 0, 5120, other, sizeof other).number, 0);
+
+    memcpy(other, plan, sizeof plan);
+    other[16 + 4] = other[3 * 16 + 12] = 5;
+    is("is not carried out", sumbilak_carry_write(image, IMAGE, 0, 5120, other, sizeof other, 9).number, 11);
+    is("the image stays", (uint64_t)memcmp(image, before, IMAGE), 0);
+}
+
 /* Chunk 0 on units 3, 4 and chunk 2 on units 0, 1, then damaged: chunk 3 names chunk 2's map, and chunk 1 a map that begins with X. */
 static void repairs(void)
 {
@@ -340,7 +380,11 @@ static void reserved_units(void)
     is("is not carried out", sumbilak_carry_write(image, IMAGE2, 0, 5120, plan, 160, 10).number, 11);
     is("the image stays", (uint64_t)memcmp(image, other, IMAGE2), 0);
     plan[3 * 16 + 12] = plan[4] = 19;
-    is("the last unit", sumbilak_check_write(image, IMAGE2, 0, 5120, plan, 160).number, 0);
+    a = sumbilak_check_write(image, IMAGE2, 0, 5120, plan, 160);
+    is("the last unit, which is free", a.number, 11);
+    is("is not the lowest", a.place, 2);
+    plan[3 * 16 + 12] = plan[4] = 5;
+    is("unit 5 is", sumbilak_check_write(image, IMAGE2, 0, 5120, plan, 160).number, 0);
 
     /* a named map with unit 2: map 0, which chunk 2 names, has its first unit at byte 40 */
     other[40] = R - 1;
@@ -465,6 +509,7 @@ static void empty_slices(void)
 int main(void)
 {
     worked_cases();
+    lowest_units();
     repairs();
     edition_2();
     reserved_units();
