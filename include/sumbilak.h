@@ -163,8 +163,8 @@ sumbilak_answer sumbilak_plan_discard(const uint8_t *image, size_t len, uint64_t
 
 /* Checks a plan from any hand against the image and the request, before any of it is carried out: number 0 exactly when the image is sound, the request
  * good and the five rules kept. What is proved of power failures is proved of plans that pass here. Rule 2: piece j of a write is on the j-th lowest free
- * unit, counted from 0; until request 6 any free units would do. Which free map a plan takes, and the order of its DATA steps, is the maker's. Refuses with
- * 1 to 8 (8 for a write), and 11. */
+ * unit, counted from 0 (earlier versions took any free units); with too few free units no plan keeps it. Which free map a plan takes, and the order of its
+ * DATA steps, is the maker's. Refuses with 1 to 8 (8 for a write), and 11. */
 sumbilak_answer sumbilak_check_write(const uint8_t *image, size_t len, uint64_t chunk, uint64_t size, const uint8_t *plan, size_t plan_len);
 sumbilak_answer sumbilak_check_discard(const uint8_t *image, size_t len, uint64_t chunk, const uint8_t *plan, size_t plan_len);
 
