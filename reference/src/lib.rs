@@ -3,6 +3,7 @@
 //! proved library to it.
 //!
 //! * [`model`] is the implementation.
+//! * [`onepass`] is the benchmark's yardstick.
 //! * [`ffi`] is the proved library's C interface.
 //! * [`rng`] and [`inputs`] make reproducible test inputs; [`settings`] are a run's.
 //! * [`timing`] is the benchmarks' clock.
@@ -14,6 +15,7 @@
 pub mod ffi;
 pub mod inputs;
 pub mod model;
+pub mod onepass;
 pub mod rng;
 pub mod settings;
 pub mod timing;
