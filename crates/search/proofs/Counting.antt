@@ -1,20 +1,20 @@
--- How many numbers a test keeps where those of a list are taken out.
+-- How many numbers a test keeps where those of a list are taken out, and that a list has no repetition exactly when its set has as many members.
 use Prim.Native.Nat.{ℕ, suc, _+_, _≤_, _<_}
 use native.Mathlib.Omega.{arith}
 use mathlib.Core.Path.{_≡_, refl, sym, ap, _∙_}
 use mathlib.Core.Logic.{⊎-elim}
-use mathlib.Core.Bool.{Bool, true, false}
+use mathlib.Core.Bool.{Bool, true, false, not, _&&_}
 use mathlib.Core.List.{List, [], _∷_}
 use lib.ListN.{length}
 use lib.Dec.{eqb}
-use borrow.Author.Tests.{eqb-true, eqb-false, not-false}
+use borrow.Author.Tests.{eq-eqb, eqb-true, eqb-false, not-false}
 use Rattle.search.specs.Search.{below, keep, member, distinct}
 use Rattle.search.specs.Sets.{put, without}
-use Rattle.search.proofs.Bools.{contradict, either}
+use Rattle.search.proofs.Bools.{contradict, either, same}
 use Rattle.search.proofs.Members.{member-nil, member-cons, member-head, member-tail, no-numbers}
 use Rattle.search.proofs.Ranges.{length-from, below-member}
-use Rattle.search.proofs.Kept.{keep-nil, keep-cons-true, keep-cons-false, keep-ext, keep-all, keep-below-empty}
-use Rattle.search.proofs.Distinct.{distinct-head, distinct-tail, distinct-from}
+use Rattle.search.proofs.Kept.{keep-nil, keep-cons-true, keep-cons-false, keep-ext, keep-all, keep-none, keep-below-empty}
+use Rattle.search.proofs.Distinct.{distinct-nil, distinct-cons, distinct-head, distinct-tail, distinct-from}
 use Rattle.search.proofs.Taken.{put-same, put-other, without-none, without-cons}
 
 -- where a number is not in the list, taking it out changes nothing
@@ -108,3 +108,50 @@ covers n xs d e h j l =
     let others = keep (without (λ u. true) xs) (below n) in
     let none : length others ≡ 0 = omega (arith, unlisted-exactly n xs d h) in
     not-false (member j xs) (keep-below-empty (without (λ u. true) xs) n (no-numbers others none) j l)
+
+-- ---- a list has no repetition exactly when its set has as many members
+
+listed-cell : (a : Bool) → (a && not a) ≡ false
+listed-cell true = refl
+listed-cell false = refl
+
+module _ (xs : List ℕ) (d : distinct xs ≡ true) where
+  none-left : (ys : List ℕ) → length (keep (without (λ u. member u ys) ys) xs) ≡ 0
+  unfolding without
+  none-left ys = ap length (keep-none (without (λ u. member u ys) ys) xs (λ u m. listed-cell (member u ys)))
+
+  -- the numbers of xs that stand in ys are no more than ys has places
+  pub listed-most : (ys : List ℕ) → length (keep (λ u. member u ys) xs) ≤ length ys
+  listed-most ys = omega (arith, left-at-least (λ u. member u ys) xs ys d, none-left ys)
+
+  module _ (y : ℕ) (ys : List ℕ) where
+    -- the head stands in the rest of the list too, or not
+    listed-again : member y ys ≡ true → length (keep (λ u. member u (y ∷ ys)) xs) ≤ length ys
+    listed-again h =
+        let e = ap length (keep-ext (λ u. member u (y ∷ ys)) (λ u. member u ys) xs (λ u m. same (member u (y ∷ ys)) (member u ys)
+        (λ p. ⊎-elim (λ q. ap (λ (z : ℕ). member z ys) q ∙ h) (λ q. q) (member-cons u y ys p)) (λ p. member-tail u y ys p))) in
+        omega (arith, listed-most ys)
+
+    listed-first : member y ys ≡ false → length (keep (λ u. member u (y ∷ ys)) xs) ≤ suc (length (keep (λ u. member u ys) xs))
+    listed-first h =
+        let f : ℕ → Bool = λ u. member u (y ∷ ys) in
+        let e = ap length (keep-ext (put f y false) (λ u. member u ys) xs (λ u m. ⊎-elim
+        (λ q. let w = eqb-true u y q in ap (put f y false) w ∙ put-same f y false ∙ sym (ap (λ (z : ℕ). member z ys) w ∙ h))
+        (λ q. let w = eqb-false u y q in put-other f y false u w
+        ∙ same (member u (y ∷ ys)) (member u ys) (λ p. ⊎-elim (λ z. absurd (w z)) (λ z. z) (member-cons u y ys p)) (λ p. member-tail u y ys p))
+        (either (eqb u y)))) in
+        omega (arith, keep-put-most f y xs d)
+
+  listed-distinct : (ys : List ℕ) → length (keep (λ u. member u ys) xs) ≡ length ys → distinct ys ≡ true
+  listed-distinct [] e = distinct-nil
+  listed-distinct (y ∷ ys) e =
+      ⊎-elim (λ h. absurd (omega (arith, listed-again y ys h)))
+      (λ h. distinct-cons y ys h (listed-distinct ys (omega (arith, listed-first y ys h, listed-most ys))))
+      (either (member y ys))
+
+  pub distinct-counted : (ys : List ℕ) → ((u : ℕ) → member u ys ≡ true → member u xs ≡ true)
+      → distinct ys ≡ eqb (length (keep (λ u. member u ys) xs)) (length ys)
+  distinct-counted ys h = same (distinct ys) (eqb (length (keep (λ u. member u ys) xs)) (length ys))
+      (λ e. eq-eqb (length (keep (λ u. member u ys) xs)) (length ys)
+      (omega (arith, left-exactly (λ u. member u ys) xs ys d e (λ u m. (h u m, m)), none-left ys)))
+      (λ e. listed-distinct ys (eqb-true _ _ e))

@@ -5,7 +5,7 @@ use native.Mathlib.Numerals.{add-one}
 use native.Mathlib.Omega.{arith}
 use mathlib.Core.Path.{_≡_, refl, sym, ap, subst, _∙_}
 use mathlib.Core.Logic.{⊎-elim}
-use mathlib.Core.Bool.{Bool, true, false, cond}
+use mathlib.Core.Bool.{Bool, true, false}
 use mathlib.Core.List.{List, [], _∷_, _++_}
 use lib.ListN.{length, getD, take}
 use lib.Seq.{getD-take, length-take-le}
@@ -13,8 +13,8 @@ use Rattle.search.specs.Search.{from, below, keep, member, rising, first
 use Rattle.search.specs.Sets.{Lowest}
 use Rattle.search.proofs.Bools.{contradict, either, less-or-not}
 use Rattle.search.proofs.Members.{member-place, member-getD, member-take, no-numbers}
-use Rattle.search.proofs.Ranges.{length-from, member-from, below-member}
-use Rattle.search.proofs.Kept.{keep-nil, keep-cons-true, keep-cons-false, keep-empty, keep-cut, keep-few, keep-member, member-keep}
+use Rattle.search.proofs.Ranges.{member-from, below-member}
+use Rattle.search.proofs.Kept.{keep-nil, keep-cons-true, keep-cons-false, keep-empty, keep-cut, keep-member, member-keep}
 
 module _ (f : ℕ → Bool) (n : ℕ) where
   pub rising-end : (i : ℕ) → n ≤ i → rising f n i ≡ []
@@ -94,21 +94,7 @@ module _ (f : ℕ → Bool) (n : ℕ) where
   unfolding rising
   rising-empty i u e h l = keep-empty f i (n - i) (no-numbers (rising f n i) e) u h (omega arith)
 
--- ---- how many there are
-
-module _ (f : ℕ → Bool) (n : ℕ) where
-  -- of the numbers below n at most n
-  pub rising-few : (i : ℕ) → length (rising f n i) ≤ n
-  unfolding rising
-  rising-few i = omega (arith, keep-few f (from i (n - i)), length-from i (n - i))
-
-  -- one more, or not
-  pub rising-more : (i : ℕ) → i < n → length (rising f n i) ≡ cond (f i) 1 0 + length (rising f n (i + 1))
-  rising-more i h =
-      ⊎-elim (λ t. let e = ap length (rising-in f n i h t) in rw t (omega arith))
-      (λ t. let e = ap length (rising-out f n i h t) in rw t (omega arith))
-      (either (f i))
-
+  -- all of them
   pub rising-all : rising f n 0 ≡ keep f (below n)
   unfolding rising
   rising-all = rw sub-zero

@@ -9,7 +9,7 @@ use lib.Seq.{take-suc, drop-cons}
 use lib.Dec.{eqb}
 use borrow.Author.Tests.{eq-eqb, ne-eqb}
 use Rattle.search.specs.Search.{all, any, member, distinct}
-use Rattle.search.specs.Sets.{put, without}
+use Rattle.search.specs.Sets.{put, without, withAll}
 use Rattle.search.proofs.Bools.{eqb-comm}
 use Rattle.search.proofs.Members.{member-append, all-ext}
 
@@ -81,6 +81,27 @@ unfolding put without
 without-more f us j h y =
     rw (add-one j, take-suc us j 0 h, member-last y (getD us j 0) (take j us))
     (without-last-cell (f y) (member y (take j us)) (eqb y (getD us j 0)))
+
+-- ---- a list of numbers put in
+
+pub withAll-none : (f : ℕ → Bool) (y : ℕ) → f y ≡ withAll f [] y
+unfolding withAll member any
+withAll-none f y = sym (or-false (f y))
+
+withAll-cell : (a m q : Bool) → cond q true (a || m) ≡ (a || (m || q))
+withAll-cell true m true = refl
+withAll-cell true m false = refl
+withAll-cell false true true = refl
+withAll-cell false true false = refl
+withAll-cell false false true = refl
+withAll-cell false false false = refl
+
+pub withAll-more : (f : ℕ → Bool) (us : List ℕ) (j : ℕ) → j < length us → (y : ℕ)
+    → put (withAll f (take j us)) (getD us j 0) true y ≡ withAll f (take (j + 1) us) y
+unfolding put withAll
+withAll-more f us j h y =
+    rw (add-one j, take-suc us j 0 h, member-last y (getD us j 0) (take j us))
+    (withAll-cell (f y) (member y (take j us)) (eqb y (getD us j 0)))
 
 -- ---- whether a list's numbers can be taken out of a set, each once: they are in it and differ
 
