@@ -28,7 +28,7 @@ pub length-bitSet : (f : ℕ → Bool) (n : ℕ) → length (bitSet f n) ≡ n
 unfolding bitSet
 length-bitSet f n = length-map (below n) (λ w. bits f (64 * w) 64) ∙ length-from 0 n
 
-pub bitSet-word : (f : ℕ → Bool) (n i : ℕ) → i < n → getD (bitSet f n) i 0 ≡ bits f (64 * i) 64
+bitSet-word : (f : ℕ → Bool) (n i : ℕ) → i < n → getD (bitSet f n) i 0 ≡ bits f (64 * i) 64
 unfolding bitSet
 bitSet-word f n i h = getD-map-below (λ w. bits f (64 * w) 64) n i 0 h
 

@@ -3,12 +3,13 @@ use Prim.Native.Nat.{ℕ, zero, suc, _+_, _-_, _*_, _/_, _%_, _≤_}
 use mathlib.Core.Bool.{Bool, true, false, cond}
 use mathlib.Core.List.{List, _∷_, _++_}
 use mathlib.Core.Path.{_≡_, refl, ap, sym, _∙_}
-use native.Mathlib.Nat.{add-zero, suc-add}
+use native.Mathlib.Nat.{add-zero, zero-add, suc-add}
 use native.Mathlib.Omega.{arith}
 use lib.Count.{ones, onesIn, trailingZeros, under, ones-step}
 use lib.ListN.{length, length-append}
-use Rattle.search.specs.Search.{from, keep, rising, firstOr}
+use Rattle.search.specs.Search.{from, below, keep, rising, firstOr}
 use Rattle.search.proofs.Members.{no-numbers, first-append}
+use Rattle.search.proofs.Kept.{keep-cut}
 use Rattle.search.proofs.Rising.{rising-cut}
 use Rattle.bitset.specs.Bits.{bits}
 use Rattle.bitset.proofs.Digits.{digit, digit-le}
@@ -50,16 +51,20 @@ trailing-bits f base (suc k) above d some =
     cell true x us t some next = sym (add-zero base)
     cell false x us t some next = let e = next (λ z. some (omega arith)) in omega arith
 
--- ---- a word x has the digits of the k numbers from i to `next`: what a search over the words finds in it, and where it goes on
+-- ---- a word x has the digits of the k numbers from i to `next`
 
+-- how many more there are below `next`
+pub ones-below : (f : ℕ → Bool) (i k next x : ℕ) → i + k ≡ next → bits f i k ≡ x
+    → length (keep f (below next)) ≡ length (keep f (below i)) + ones x
+ones-below f i k next x here e =
+    let cut = rw (here, zero-add i) at (keep-cut f 0 i k) in
+    ap length cut ∙ length-append (keep f (below i)) (keep f (from i k))
+    ∙ ap (λ (c : ℕ). length (keep f (below i)) + c) (sym (ones-bits f i k) ∙ ap ones e)
+
+-- what a search over the words finds in it, and where it goes on
 module _ (f : ℕ → Bool) (n i k next x : ℕ) (here : i + k ≡ next) (within : next ≤ n) (e : bits f i k ≡ x) where
   cut : rising f n i ≡ keep f (from i k) ++ rising f n next
   cut = rw here at (rising-cut f n i k (omega arith))
-
-  pub ones-rising : length (rising f n i) ≡ ones x + length (rising f n next)
-  ones-rising =
-      ap length cut ∙ length-append (keep f (from i k)) (rising f n next)
-      ∙ ap (λ (c : ℕ). c + length (rising f n next)) (sym (ones-bits f i k) ∙ ap ones e)
 
   pub zero-rising : x ≡ 0 → rising f n i ≡ rising f n next
   unfolding ones onesIn

@@ -1,6 +1,6 @@
 -- The digits of one word: below, at and above a place, one of them changed, all of them alike, and those of a number.
-use Prim.Native.Nat.{ℕ, zero, suc, _+_, _*_, _^_, _/_, _%_, _<_, _≤_}
-use mathlib.Core.Bool.{Bool, true, false, cond, _&&_}
+use Prim.Native.Nat.{ℕ, zero, suc, _+_, _-_, _*_, _^_, _/_, _%_, _<_, _≤_}
+use mathlib.Core.Bool.{Bool, true, false, not, _&&_, cond}
 use mathlib.Core.Path.{_≡_, refl, ap, _∙_}
 use native.Mathlib.Nat.{zero-add, suc-add, add-zero, mul-assoc, pow-suc, pow-succ', add-mul-div-left, div-eq-of-lt, div-lt-iff-lt-mul}
 use native.Mathlib.Numerals.{one-add}
@@ -10,7 +10,7 @@ use lib.Dec.{eqb, ltb, leb, lit<}
 use lib.Pow.{pow-pos, shr-shr}
 use mathlib.Core.Logic.{⊎-elim}
 use borrow.Author.Tests.{lt-ltb, le-ltb, le-leb, lt-leb, ltb-true, ltb-false}
-use Rattle.search.proofs.Bools.{either}
+use Rattle.search.proofs.Bools.{either, contradict}
 use Rattle.search.specs.Sets.{put}
 use Rattle.bitset.specs.Bits.{bits}
 use Rattle.search.proofs.Taken.{put-same, put-other}
@@ -27,6 +27,13 @@ digit-le false = omega arith
 pub digit-test : (v : Bool) → eqb (digit v) 1 ≡ v
 digit-test true = refl
 digit-test false = refl
+
+-- all of a test but a part of it, and that part
+digit-rest : (v part : Bool) → (part ≡ true → v ≡ true) → digit (v && not part) + digit part ≡ digit v
+digit-rest true true h = refl
+digit-rest true false h = refl
+digit-rest false true h = contradict (h refl) refl
+digit-rest false false h = refl
 
 digit-back : (d : ℕ) → d < 2 → digit (eqb d 1) ≡ d
 digit-back zero h = refl
@@ -109,7 +116,7 @@ bits-none f base zero h = refl
 bits-none f base (suc k) h =
     rw (h base (omega arith) (omega arith), bits-none f (suc base) k (λ y a b. h y (omega arith) (omega arith)))
 
-pub bits-full : (f : ℕ → Bool) (base k : ℕ) → ((y : ℕ) → base ≤ y → y < base + k → f y ≡ true) → bits f base k + 1 ≡ 2 ^ k
+bits-full : (f : ℕ → Bool) (base k : ℕ) → ((y : ℕ) → base ≤ y → y < base + k → f y ≡ true) → bits f base k + 1 ≡ 2 ^ k
 unfolding bits
 bits-full f base zero h = refl
 bits-full f base (suc k) h =
@@ -123,24 +130,43 @@ bits-below n base j k e =
     let high = bits-none f (base + j) k (λ y a b. le-ltb y n (omega arith)) in
     rw (bits-cut f base j k, high) (omega (arith, low))
 
--- the numbers from low on and below high: those below high without those below low
-digit-between : (low high y : ℕ) → low ≤ high → digit (leb low y && ltb y high) + digit (ltb y low) ≡ digit (ltb y high)
-digit-between low high y h =
+-- word i of their set: full, filled in part, or empty
+module _ (n i : ℕ) where
+  pub word-full : i < n / 64 → bits (λ u. ltb u n) (64 * i) 64 + 1 ≡ 2 ^ 64
+  word-full h = bits-full (λ u. ltb u n) (64 * i) 64 (λ y a b. lt-ltb y n (omega arith))
+
+  pub word-partial : i ≡ n / 64 → bits (λ u. ltb u n) (64 * i) 64 + 1 ≡ 2 ^ (n % 64)
+  word-partial e =
+      let width : n % 64 + (64 - n % 64) ≡ 64 = omega arith in
+      rw width at (bits-below n (64 * i) (n % 64) (64 - n % 64) (omega arith))
+
+  pub word-empty : n / 64 < i → bits (λ u. ltb u n) (64 * i) 64 ≡ 0
+  word-empty h = bits-none (λ u. ltb u n) (64 * i) 64 (λ y a b. le-ltb y n (omega arith))
+
+-- ---- the digits of a test, taken apart into those of two
+
+bits-sum : (f g whole : ℕ → Bool) (base k : ℕ) → ((y : ℕ) → y < base + k → digit (f y) + digit (g y) ≡ digit (whole y))
+    → bits f base k + bits g base k ≡ bits whole base k
+unfolding bits
+bits-sum f g whole base zero h = refl
+bits-sum f g whole base (suc k) h = omega (arith, h base (omega arith), bits-sum f g whole (suc base) k (λ y b. h y (omega arith)))
+
+-- of numbers below n: the others below n, and these
+pub bits-others : (f : ℕ → Bool) (n base k : ℕ) → ((y : ℕ) → f y ≡ true → y < n)
+    → bits (λ u. ltb u n && not (f u)) base k + bits f base k ≡ bits (λ u. ltb u n) base k
+bits-others f n base k h = bits-sum _ _ _ base k (λ y b. digit-rest (ltb y n) (f y) (λ e. lt-ltb y n (h y e)))
+
+-- of all numbers below `low` and some from it on: the latter, and the numbers below `low`
+digit-from : (low y : ℕ) (v : Bool) → (y < low → v ≡ true) → digit (leb low y && v) + digit (ltb y low) ≡ digit v
+digit-from low y v h =
     ⊎-elim
-    (λ q. let l = ltb-true y low q in rw (q, lt-leb low y l, lt-ltb y high (omega arith)))
-    (λ q. let l = ltb-false y low q in rw (q, le-leb low y l) (add-zero (digit (ltb y high))))
+    (λ q. let l = ltb-true y low q in rw (q, lt-leb low y l, h l))
+    (λ q. let l = ltb-false y low q in rw (q, le-leb low y l) (add-zero (digit v)))
     (either (ltb y low))
 
-pub bits-between : (low high base k : ℕ) → low ≤ high
-    → bits (λ u. leb low u && ltb u high) base k + bits (λ u. ltb u low) base k ≡ bits (λ u. ltb u high) base k
-unfolding bits
-bits-between low high base zero h = refl
-bits-between low high base (suc k) h = omega (arith, digit-between low high base h, bits-between low high (suc base) k h)
-
--- from `low` on the two are the same
-pub bits-past : (low high base k : ℕ) → low ≤ high → low ≤ base → bits (λ u. ltb u high) base k ≡ bits (λ u. leb low u && ltb u high) base k
-bits-past low high base k h l =
-    let none = bits-none (λ u. ltb u low) base k (λ y a b. le-ltb y low (omega arith)) in omega (arith, bits-between low high base k h)
+pub bits-from : (f : ℕ → Bool) (low base k : ℕ) → ((y : ℕ) → y < low → y < base + k → f y ≡ true)
+    → bits (λ u. leb low u && f u) base k + bits (λ u. ltb u low) base k ≡ bits f base k
+bits-from f low base k h = bits-sum _ _ _ base k (λ y b. digit-from low y (f y) (λ l. h y l b))
 
 -- ---- a number of k digits is what its own digits say
 pub bits-own : (f : ℕ → Bool) (base k x : ℕ) → x < 2 ^ k → ((j : ℕ) → j < k → f (base + j) ≡ eqb (x / 2 ^ j % 2) 1) → bits f base k ≡ x

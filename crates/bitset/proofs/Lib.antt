@@ -2,6 +2,7 @@
 pub mod Digits
 pub mod BitSets
 pub mod Members
+pub mod Others
 pub mod Counts
 pub mod Theorems
 pub mod Ones

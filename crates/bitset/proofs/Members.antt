@@ -1,28 +1,52 @@
 -- The members of a set of words are the numbers at which its test holds.
 use Prim.Native.Nat.{ℕ, _+_, _-_, _*_, _≤_, _<_}
 use mathlib.Core.Bool.{Bool, true, false}
+use mathlib.Core.List.{List}
 use mathlib.Core.Logic.{⊎-elim}
 use mathlib.Core.Path.{_≡_, ap, sym, _∙_, fun-ext}
 use native.Mathlib.Omega.{arith}
 use lib.ListN.{length}
 use Rattle.search.specs.Search.{below, keep, rising}
-use Rattle.search.proofs.Bools.{is-false, less-or-not}
-use Rattle.search.proofs.Kept.{keep-ext, keep-short}
-use Rattle.search.proofs.Ranges.{member-below}
-use Rattle.bitset.specs.Bits.{bitSet, inSet, members}
+use Rattle.search.proofs.Bools.{contradict, is-false, less-or-not}
+use Rattle.search.proofs.Kept.{keep-ext, keep-short, keep-few}
+use Rattle.search.proofs.Ranges.{member-below, length-from}
+use Rattle.bitset.specs.Bits.{bitSet, inSet, members, membersBelow}
 use Rattle.bitset.proofs.BitSets.{length-bitSet, in-bitSet, past-bitSet}
 
+-- in the first `end` words
+below-bitSet : (f : ℕ → Bool) (n end : ℕ) → end ≤ n → membersBelow (bitSet f n) (64 * end) ≡ keep f (below (64 * end))
+below-bitSet f n end h =
+    keep-ext (inSet (bitSet f n)) f (below (64 * end)) (λ u m. in-bitSet f n u (omega (arith, member-below u (64 * end) m)))
+
+-- in all of them
 pub members-bitSet : (f : ℕ → Bool) (n : ℕ) → members (bitSet f n) ≡ keep f (below (64 * n))
 unfolding rising
 members-bitSet f n =
     let all : 64 * length (bitSet f n) - 0 ≡ 64 * n = omega (arith, length-bitSet f n) in
-    rw all (keep-ext (inSet (bitSet f n)) f (below (64 * n)) (λ u m. in-bitSet f n u (member-below u (64 * n) m)))
+    rw all (below-bitSet f n n (omega arith))
+
+-- numbers that are all below k are found below k
+found-below : (f : ℕ → Bool) (k n : ℕ) → ((u : ℕ) → k ≤ u → f u ≡ false) → k ≤ n → keep f (below n) ≡ keep f (below k)
+found-below f k n h l =
+    let all : n ≡ k + (n - k) = omega arith in
+    ap (λ (c : ℕ). keep f (below c)) all ∙ keep-short f 0 k (n - k) (λ u a. h u (omega arith))
 
 -- a set whose numbers are all below k, which have a bit
 pub members-below : (f : ℕ → Bool) (k n : ℕ) → ((u : ℕ) → k ≤ u → f u ≡ false) → k ≤ 64 * n → members (bitSet f n) ≡ keep f (below k)
-members-below f k n h l =
-    let all : 64 * n ≡ k + (64 * n - k) = omega arith in
-    members-bitSet f n ∙ ap (λ (c : ℕ). keep f (below c)) all ∙ keep-short f 0 k (64 * n - k) (λ u a. h u (omega arith))
+members-below f k n h l = members-bitSet f n ∙ found-below f k (64 * n) h l
+
+-- a set whose numbers are all below `top`, which have a bit in the first `end` words
+pub members-within : (f : ℕ → Bool) (n end top : ℕ) → end ≤ n → top ≤ 64 * end → ((u : ℕ) → f u ≡ true → u < top)
+    → membersBelow (bitSet f n) (64 * end) ≡ keep f (below top)
+members-within f n end top h l only =
+    below-bitSet f n end h ∙ found-below f top (64 * end) (λ u a. is-false (f u) (λ e. let low = only u e in omega arith)) l
+
+-- words whose members are all below `top`, which have a bit in the first `end` of them
+pub members-first : (ws : List ℕ) (end top : ℕ) → end ≤ length ws → top ≤ 64 * end → ((u : ℕ) → inSet ws u ≡ true → u < top)
+    → membersBelow ws (64 * end) ≡ members ws
+unfolding rising
+members-first ws end top h l only =
+    sym (found-below (inSet ws) (64 * end) (64 * length ws - 0) (λ u a. is-false (inSet ws u) (λ e. let low = only u e in omega arith)) (omega arith))
 
 -- a set all of whose numbers have a bit contains just these
 pub in-whole : (f : ℕ → Bool) (n : ℕ) → ((u : ℕ) → f u ≡ true → u < 64 * n) → inSet (bitSet f n) ≡ f
@@ -30,3 +54,12 @@ in-whole f n within = fun-ext λ u.
     ⊎-elim (in-bitSet f n u)
     (λ past. past-bitSet f n u past ∙ sym (is-false (f u) (λ e. let low = within u e in omega arith)))
     (less-or-not u (64 * n))
+
+-- of a number that a set contains its test holds
+pub in-holds : (f : ℕ → Bool) (n u : ℕ) → inSet (bitSet f n) u ≡ true → f u ≡ true
+in-holds f n u e =
+    ⊎-elim (λ l. sym (in-bitSet f n u l) ∙ e) (λ past. contradict e (past-bitSet f n u past)) (less-or-not u (64 * n))
+
+-- no more than n members are below n
+pub members-few : (ws : List ℕ) (n : ℕ) → length (membersBelow ws n) ≤ n
+members-few ws n = omega (arith, keep-few (inSet ws) (below n), length-from 0 n)

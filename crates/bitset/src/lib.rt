@@ -1,7 +1,7 @@
 // Sets of numbers as lent words of 64 bits, any number of them: bit u mod 64 of word u/64 is 1 where u is in the set.
 ghost use mathlib.Core.Path.{_≡_};
-ghost use mathlib.Core.Bool.{_&&_};
-ghost use Prim.Native.Nat.{_*_, _%_, _^_, _<_, _≤_};
+ghost use mathlib.Core.Bool.{true, not, _&&_};
+ghost use Prim.Native.Nat.{ℕ, _*_, _%_, _^_, _<_, _≤_};
 ghost use lib.ListN.{length, take};
 ghost use lib.Seq.{sets};
 ghost use lib.Dec.{ltb, leb};
@@ -30,16 +30,24 @@ fn bit(u: usize) -> u64
     1u64 << (u % 64)
 }
 
-// Puts u into the set: past the last word nothing changes.
-pub fn insert(set: &mut [u64], u: usize)
+// Puts u, which has a bit, into the set.
+pub fn place(set: &mut [u64], u: usize)
+    requires { ⌜ u < limit (now set) ⌝ }
     ensures { λ r. ⌜ now (set .exit) ≡ inserted (now (set .entry)) u ⌝ }
 {
     let b = bit(u);
     let i = u / 64;
-    if set.len() <= i {
+    set[i] = set[i] | b;
+}
+
+// Puts u into the set: past the last word nothing changes.
+pub fn insert(set: &mut [u64], u: usize)
+    ensures { λ r. ⌜ now (set .exit) ≡ inserted (now (set .entry)) u ⌝ }
+{
+    if set.len() <= u / 64 {
         return;
     }
-    set[i] = set[i] | b;
+    place(set, u);
 }
 
 // Takes u out of the set: past the last word nothing changes.
@@ -73,17 +81,31 @@ fn word_below(n: usize, i: usize) -> u64
 pub fn fill(set: &mut [u64], n: usize)
     ensures { λ r. ⌜ now (set .exit) ≡ bitSet (λ u. ltb u n) (length (now (set .entry))) ⌝ }
 {
-    for i in 0..set.len() {
-        set[i] = word_below(n, i);
+    let last = n / 64;
+    let full = if last < set.len() { last } else { set.len() };
+    for i in 0..full {
+        set[i] = FULL;
+    }
+    if full < set.len() {
+        set[full] = bit(n) - 1;
+    }
+    for i in full + 1..set.len() {
+        set[i] = 0;
     }
 }
 
-// Word i of the set of the numbers from `low` on and below `high`.
-fn word_between(low: usize, high: usize, i: usize) -> u64
-    requires { ⌜ low ≤ high ⌝ }
-    ensures { λ r. ⌜ r ≡ bits (λ u. leb low u && ltb u high) (64 * i) 64 ⌝ }
+// Takes the numbers below `low`, which are all in the set as far as it has bits for them, out of it.
+fn clear_below(set: &mut [u64], low: usize)
+    requires { ⌜ ((u : ℕ) → u < low → u < limit (now set) → inSet (now set) u ≡ true) ⌝ }
+    ensures { λ r. ⌜ now (set .exit) ≡ bitSet (λ u. leb low u && inSet (now (set .entry)) u) (length (now (set .entry))) ⌝ }
 {
-    word_below(high, i) - word_below(low, i)
+    // The words past that of `low` have none of them.
+    for i in 0..set.len() {
+        if low / 64 < i {
+            return;
+        }
+        set[i] = set[i] - word_below(low, i);
+    }
 }
 
 // Makes the set that of the numbers from `low` on and below `high`, as far as it has bits for them.
@@ -92,13 +114,7 @@ pub fn fill_between(set: &mut [u64], low: usize, high: usize)
     ensures { λ r. ⌜ now (set .exit) ≡ bitSet (λ u. leb low u && ltb u high) (length (now (set .entry))) ⌝ }
 {
     fill(set, high);
-    // The words past that of `low` are right already.
-    for i in 0..set.len() {
-        if low / 64 < i {
-            return;
-        }
-        set[i] = word_between(low, high, i);
-    }
+    clear_below(set, low);
 }
 
 // The lowest member from word `first` on, or the limit where there is none.
@@ -132,18 +148,56 @@ pub fn next_member(set: &[u64], start: usize) -> usize
     next_in_words(set, i + 1)
 }
 
+// How many members the first `end` words of the set have.
+pub fn count_words(set: &[u64], end: usize) -> usize
+    requires { ⌜ (limit (now set) < 2 ^ 64) × (end ≤ length (now set)) ⌝ }
+    ensures { λ r. ⌜ r ≡ length (membersBelow (now (set .entry)) (64 * end)) ⌝ }
+{
+    let mut n: usize = 0;
+    let mut i: usize = 0;
+    while i < end {
+        n += u64::count_ones(set[i]) as usize;
+        i += 1;
+    }
+    n
+}
+
 // How many members the set has.
 pub fn count(set: &[u64]) -> usize
     requires { ⌜ limit (now set) < 2 ^ 64 ⌝ }
     ensures { λ r. ⌜ r ≡ length (members (now (set .entry))) ⌝ }
 {
-    let mut n: usize = 0;
-    let mut i: usize = 0;
-    while i < set.len() {
-        n += u64::count_ones(set[i]) as usize;
-        i += 1;
+    count_words(set, set.len())
+}
+
+// Makes a set of numbers below `high` that of the other numbers below `high`. No difference wraps: the numbers of a word are among all that it may have.
+fn complement_below(set: &mut [u64], high: usize)
+    requires { ⌜ high ≤ limit (now set) ⌝ }
+    requires { ⌜ ((u : ℕ) → inSet (now set) u ≡ true → u < high) ⌝ }
+    ensures { λ r. ⌜ now (set .exit) ≡ bitSet (λ u. ltb u high && not (inSet (now (set .entry)) u)) (length (now (set .entry))) ⌝ }
+{
+    let last = high / 64;
+    let mut at: usize = 0;
+    while at < last {
+        set[at] = FULL - set[at];
+        at += 1;
     }
-    n
+    if last < set.len() {
+        let below = bit(high) - 1;
+        set[last] = below - set[last];
+    }
+}
+
+// Makes a set of numbers from `low` on and below `high` that of the other such numbers.
+pub fn complement(set: &mut [u64], low: usize, high: usize)
+    requires { ⌜ (low ≤ high) × (high ≤ limit (now set)) ⌝ }
+    requires { ⌜ ((u : ℕ) → inSet (now set) u ≡ true → (low ≤ u) × (u < high)) ⌝ }
+    ensures { λ r. ⌜
+        now (set .exit) ≡ bitSet (λ u. (leb low u && ltb u high) && not (inSet (now (set .entry)) u)) (length (now (set .entry)))
+        ⌝ }
+{
+    complement_below(set, high);
+    clear_below(set, low);
 }
 
 // Stores the lowest members below `end` in `out`, rising, as many as it has room for, and answers how many.

@@ -1,74 +1,17 @@
--- `bitset::count` meets its contract. The members below word i are counted, those from it on are still to come.
-use Prim.Native.Nat.{_+_, _*_, _-_, _^_, _≤_, _<_}
-use mathlib.Core.Path.{_≡_, ap}
-use native.Mathlib.Nat.{zero-add}
-use native.Mathlib.Omega.{arith}
-use lib.Count.{ones-le}
-use lib.ListN.{length, getD}
+-- `bitset::count` meets its contract: the members in all words are the members.
+use mathlib.Core.Path.{ap, sym, _∙_}
+use lib.ListN.{length}
 use borrow.Author.Needs.{needs}
-use Rattle.search.proofs.Rising.{rising-end}
-use Rattle.bitset.specs.Bits.{inSet, limit, members, membersFrom}
-use Rattle.bitset.proofs.BitSets.{word-whole}
-use Rattle.bitset.proofs.Counts.{ones-rising}
+use Rattle.search.proofs.Rising.{rising-all}
+use Rattle.bitset.specs.Bits.{inSet, limit}
 use Rattle.bitset.proofs.count.Statement.{statement}
 use Rattle.bitset.proofs.count.Tie as tie
 
-abbrev Inv-loop : tie.InvT-loop
-Inv-loop set n₀ i₀ n i = (i ≤ length set) × (n ≤ 64 * i) × (n + length (membersFrom set (64 * i)) ≡ length (members set))
+count-words-requires : tie.Need-count-words-requires
+count-words-requires c κs = search needs
 
-abbrev μ-loop : tie.MeasureT-loop
-μ-loop set n₀ i₀ n i = length set - i
-
-loop-holds : tie.Need-loop-holds Inv-loop μ-loop
-loop-holds c = (omega arith, omega arith, zero-add _)
-
-mul-n : tie.Need-mul-n Inv-loop μ-loop
-mul-n c = search needs
-
-shared-slice-read-n : tie.Need-shared-slice-read-n Inv-loop μ-loop
-shared-slice-read-n c = search needs
-
-small : (c : tie.After-shared-slice-known Inv-loop μ-loop) → getD (c .before .before .before .args .set .now) (c .before .before .loop .i) 0 < 2 ^ 64
-small c = omega (arith, c .shared-slice-known .given (c .before .before .loop .i))
-
-cast-n : tie.Need-cast-n Inv-loop μ-loop
-cast-n c = omega (arith, ones-le 64 _ (small c))
-
-add-n : tie.Need-add-n Inv-loop μ-loop
-add-n c = omega (arith, ones-le 64 _ (small c))
-
-add-i : tie.Need-add-i Inv-loop μ-loop
-add-i c = omega arith
-
-loop-less : tie.Need-loop-less Inv-loop μ-loop
-loop-less c = omega arith
-
-loop-again : tie.Need-loop-again Inv-loop μ-loop
-loop-again c =
-    let set = c .before .before .before .args .set .now in
-    let i = c .before .before .loop .i in
-    let step = ones-rising (inSet set) (limit set) (64 * i) 64 (64 * (i + 1)) (getD set i 0) (omega arith) (omega arith) (word-whole set i (small c)) in
-    let few = ones-le 64 _ (small c) in
-    (omega arith, omega arith, omega arith)
-
-returns : tie.Need-returns Inv-loop μ-loop
-returns c =
-    let set = c .before .before .args .set .now in
-    let end = ap length (rising-end (inSet set) (limit set) (64 * c .before .loop .i) (omega arith)) in
-    omega arith
+returns : tie.Need-returns
+returns c = let set = c .before .before .args .set .now in c .count-words .ensures ∙ ap length (sym (rising-all (inSet set) (limit set)))
 
 pub count-spec : {M : Type 1} → statement M
-count-spec =
-    tie.close
-    (tie.spec
-    Inv-loop
-    μ-loop
-    loop-holds
-    mul-n
-    shared-slice-read-n
-    cast-n
-    add-n
-    add-i
-    loop-less
-    loop-again
-    returns)
+count-spec = tie.close (tie.spec count-words-requires returns)
