@@ -170,6 +170,12 @@ units-are-units s u i m =
 pub units-below : (s : List ℕ) (u i : ℕ) → member u (unitsOf s i) ≡ true → u < shapeOf s .n
 units-below s u i m = unit-below (shapeOf s) u (units-are-units s u i m)
 
+-- a mapped chunk holds a unit, where its map has the right form
+pub good-some : (s : List ℕ) (i : ℕ) → mapped s i ≡ true → goodMap s i ≡ true → 0 < length (unitsOf s i)
+good-some s i m h =
+    let f = map-form (shapeOf s) (mapOf s (linkOf s i)) (sym (named-map s i (mapped-named s i m)) ∙ h) .units in
+    omega (arith, ap length (units-mapped s i m), f .some)
+
 -- ---- two chunks that do not clash
 
 pub clash-links : (s : List ℕ) (i j : ℕ) → clash s i j ≡ false → mapped s i ≡ true → mapped s j ≡ true → linkOf s i ≡ linkOf s j → ⊥
@@ -191,12 +197,8 @@ clash-units s i j e = disjoint-intro (unitsOf s i) (unitsOf s j) (λ u m. is-fal
 -- ---- of an image that passes
 
 module _ (s : List ℕ) (z : Tested s) where
-  -- a mapped chunk holds a unit
   pub units-some : (i : ℕ) → i < shapeOf s .c → mapped s i ≡ true → 0 < length (unitsOf s i)
-  units-some i h m =
-      let g = shapeOf s in
-      let f = map-form g (mapOf s (linkOf s i)) (sym (named-map s i (mapped-named s i m)) ∙ z .maps i h) .units in
-      omega (arith, ap length (units-mapped s i m), f .some)
+  units-some i h m = good-some s i m (z .maps i h)
 
   -- two chunks of which neither clashes with the other are one
   one-chunk : (i j : ℕ) → i < shapeOf s .c → j < shapeOf s .c → (clash s i j ≡ false → ⊥) → (clash s j i ≡ false → ⊥) → i ≡ j

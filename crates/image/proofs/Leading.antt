@@ -66,6 +66,16 @@ module _ (f : ℕ → Bool) where
       leading-true w ws (u 0 (omega arith))
       ∙ ap (λ (l : List ℕ). w ∷ l) (leading-take k ws (omega arith) (λ j l. u (suc j) (omega arith)) (λ l. r (omega arith)))
 
+  pub leading-prefix : (ws : List ℕ) → leading f ws ≡ take (length (leading f ws)) ws
+  unfolding leading
+  leading-prefix [] = refl
+  leading-prefix (w ∷ ws) = go (leading-prefix ws) (f w)
+    where
+      go : leading f ws ≡ take (length (leading f ws)) ws → (b : Bool)
+          → cond b (w ∷ leading f ws) [] ≡ take (length (cond b (w ∷ leading f ws) [])) (w ∷ ws)
+      go ih true = ap (λ (l : List ℕ). w ∷ l) ih
+      go ih false = refl
+
   -- ---- how many there are from word j on
 
   module _ (ws : List ℕ) (j : ℕ) where

@@ -1,9 +1,12 @@
 pub mod Leading
+pub mod Absent
 pub mod Chunks
 pub mod MapWords
 pub mod Claiming
+pub mod Surveying
 pub mod Verdicts
 pub mod SoundLaws
+pub mod Surveyed
 pub mod Refusing
 pub mod Loads
 pub mod FreeSets

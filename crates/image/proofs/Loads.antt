@@ -1,25 +1,32 @@
--- What a caller of load learns from its answer.
+-- What a caller of the loader learns from its answer and the sets that it lent, and what `load_into` owes.
 use Prim.Native.Nat.{ℕ}
 use mathlib.Core.Path.{_≡_, refl, sym, ap, _∙_}
+use mathlib.Core.Bool.{Bool, true}
 use mathlib.Core.List.{List}
 use Rattle.layout.specs.declared.Refusal.{Refusal}
+use native.Mathlib.Omega.{arith}
+use Rattle.layout.specs.declared.Shape.{Shape}
+use Rattle.layout.specs.declared.Trailer.the-variants.{Fits, Refused as TrailerRefused}
+use Rattle.layout.specs.Trailer.{trailerOutcome}
 use Rattle.layout.specs.Layout.{shapeOf}
 use Rattle.layout.specs.Shaped.{Shaped, On}
-use Rattle.layout.proofs.Limits.{shaped}
+use Rattle.layout.proofs.Limits.{fits-on, shaped}
 use Rattle.bitset.specs.Bits.{bitSet}
 use Rattle.image.specs.declared.Verdict.{Verdict}
 use Rattle.image.specs.declared.Verdict.the-variants.{Refused, Passed}
 use Rattle.image.specs.declared.Loaded.{Loaded}
-use Rattle.image.specs.Claims.{Tested}
-use Rattle.image.specs.Verdicts.{verdict}
+use Rattle.image.specs.declared.Outcome.{Outcome}
+use Rattle.image.specs.declared.Outcome.the-variants.{Sound, Refused as OutcomeRefused}
+use Rattle.image.specs.Claims.{Tested, Judged}
+use Rattle.image.specs.Verdicts.{chunkVerdict, verdict}
+use Rattle.image.specs.Survey.{Surveyed}
 use Rattle.image.specs.Free.{freeUnit, freeMap}
 use Rattle.image.specs.Loading.{unitSetWords, mapSetWords, answer, loaded}
+use Rattle.image.specs.Outcomes.{outcome, LoadedInto}
 use Rattle.image.specs.Answers.{ifSound}
 use Rattle.image.proofs.SoundLaws.{passed-tested}
-
-answer-verdict : (v : Verdict) (s : List ℕ) → answer v s .verdict ≡ v
-answer-verdict Passed s = refl
-answer-verdict (Refused r) s = refl
+use Rattle.image.proofs.Surveyed.{passed-yes}
+use Rattle.image.proofs.Verdicts.{verdict-fits, verdict-refused}
 
 -- of a sound image: its shape and its free sets
 pub record Known (s : List ℕ) (l : Loaded) : Type 0 where
@@ -31,30 +38,93 @@ pub record Known (s : List ℕ) (l : Loaded) : Type 0 where
   pub units : l .units ≡ bitSet (freeUnit s) unitSetWords
   pub maps : l .maps ≡ bitSet (freeMap s) mapSetWords
 
-module _ (s : List ℕ) (l : Loaded) (e : l ≡ loaded s) where
-  pub loaded-verdict : l .verdict ≡ verdict s
-  loaded-verdict = ap (λ (a : Loaded). a .verdict) e ∙ answer-verdict (verdict s) s
+-- ---- of the outcome
 
-  pub loaded-known : l .verdict ≡ Passed → Known s l
-  loaded-known p =
-      let v : verdict s ≡ Passed = sym loaded-verdict ∙ p in
-      let q : l ≡ answer Passed s = e ∙ ap (λ (w : Verdict). answer w s) v in
-      let z : Tested s = passed-tested s v in
-      let g : l .shape ≡ shapeOf s = ap (λ (a : Loaded). a .shape) q in
-      record {
-        passed = v;
-        sound = z;
-        shape = g;
-        on = record { long = z .long; shape = sym g; known = z .known; fitting = z .fitting };
-        shaped = shaped s (l .shape) g (z .fitting);
-        units = ap (λ (a : Loaded). a .units) q;
-        maps = ap (λ (a : Loaded). a .maps) q;
-      }
+-- a shape is the outcome of a sound image alone, and a refusal of one that is refused
+sound-passed : (v : Verdict) (h g : Shape) → ifSound v OutcomeRefused (Sound h) ≡ Sound g → (v ≡ Passed) × (g ≡ h)
+sound-passed Passed h g e = (refl, cc)
+sound-passed (Refused r) h g e = let z : _≡_ {A = ℕ} 0 1 = cc in absurd (omega arith)
+
+refused-so : (v : Verdict) (h : Shape) (r : Refusal) → ifSound v OutcomeRefused (Sound h) ≡ OutcomeRefused r → v ≡ Refused r
+refused-so Passed h r e = let z : _≡_ {A = ℕ} 0 1 = cc in absurd (omega arith)
+refused-so (Refused q) h r e = cc
+
+-- of a sound image of shape g, where nobody asks what is free
+pub record KnownShape (s : List ℕ) (g : Shape) : Type 0 where
+  pub passed : verdict s ≡ Passed
+  pub sound : Tested s
+  pub shape : g ≡ shapeOf s
+  pub shaped : Shaped s g
+
+module _ (s : List ℕ) (o : Outcome) (e : o ≡ outcome s) where
+  pub outcome-refused : (r : Refusal) → o ≡ OutcomeRefused r → verdict s ≡ Refused r
+  outcome-refused r h = refused-so (verdict s) (shapeOf s) r (sym e ∙ h)
+
+  pub outcome-passed : (g : Shape) → o ≡ Sound g → (verdict s ≡ Passed) × (g ≡ shapeOf s)
+  outcome-passed g h = sound-passed (verdict s) (shapeOf s) g (sym e ∙ h)
+
+  pub outcome-known : (g : Shape) → o ≡ Sound g → KnownShape s g
+  outcome-known g h =
+      let p = outcome-passed g h in
+      let z : Tested s = passed-tested s (p .0) in
+      record { passed = p .0; sound = z; shape = p .1; shaped = shaped s g (p .1) (z .fitting) }
 
   -- the answer to a question on the image, as an entry point finds it
   module _ {A : Type 0} (refuse : Refusal → A) (reply : A) where
-    pub answer-refused : (r : Refusal) → l .verdict ≡ Refused r → refuse r ≡ ifSound (verdict s) refuse reply
-    answer-refused r h = rw (sym loaded-verdict ∙ h)
+    pub outcome-answer-refused : (r : Refusal) → o ≡ OutcomeRefused r → refuse r ≡ ifSound (verdict s) refuse reply
+    outcome-answer-refused r h = rw (outcome-refused r h)
 
-    pub answer-sound : l .verdict ≡ Passed → reply ≡ ifSound (verdict s) refuse reply
-    answer-sound h = rw (sym loaded-verdict ∙ h)
+    pub outcome-answer-sound : (g : Shape) → o ≡ Sound g → reply ≡ ifSound (verdict s) refuse reply
+    outcome-answer-sound g h = rw (outcome-passed g h .0)
+
+module _ (s : List ℕ) (o : Outcome) (us ms : List ℕ) (e : LoadedInto s o us ms) (g : Shape) (h : o ≡ Sound g) where
+  pub into-loaded : _≡_ {A = Loaded} (record { verdict = Passed; shape = g; units = us; maps = ms }) (loaded s)
+  into-loaded =
+      let p = outcome-passed s o (e .right) g h in
+      let q : _≡_ {A = Loaded} (record { verdict = Passed; shape = g; units = us; maps = ms }) (answer Passed s) =
+      λ i. record { verdict = Passed; shape = p .1 i; units = e .units-left g h i; maps = e .maps-left g h i } in
+      q ∙ ap (λ (w : Verdict). answer w s) (sym (p .0))
+
+  pub into-known : Known s (record { verdict = Passed; shape = g; units = us; maps = ms })
+  into-known =
+      let p = outcome-passed s o (e .right) g h in
+      let z : Tested s = passed-tested s (p .0) in
+      record {
+        passed = p .0;
+        sound = z;
+        shape = p .1;
+        on = record { long = z .long; shape = sym (p .1); known = z .known; fitting = z .fitting };
+        shaped = shaped s g (p .1) (z .fitting);
+        units = e .units-left g h;
+        maps = e .maps-left g h;
+      }
+
+-- ---- what `load_into` owes at each of its returns
+
+into-sound : (s : List ℕ) (g : Shape) (us ms : List ℕ) → g ≡ shapeOf s → verdict s ≡ Passed
+    → us ≡ bitSet (freeUnit s) unitSetWords → ms ≡ bitSet (freeMap s) mapSetWords → LoadedInto s (Sound g) us ms
+into-sound s g us ms q e u m = record { right = rw (e, q); units-left = λ k h. u; maps-left = λ k h. m }
+
+into-refused : (s : List ℕ) (r : Refusal) (us ms : List ℕ) → verdict s ≡ Refused r → LoadedInto s (OutcomeRefused r) us ms
+into-refused s r us ms e = record { right = rw e; units-left = λ g h. absurd (not-sound g h); maps-left = λ g h. absurd (not-sound g h) }
+  where
+    not-sound : (g : Shape) → OutcomeRefused r ≡ Sound g → ⊥
+    not-sound g h = let z : _≡_ {A = ℕ} 0 1 = cc in omega arith
+
+pub trailer-into : (s : List ℕ) (r : Refusal) → trailerOutcome s ≡ TrailerRefused r → (us ms : List ℕ) → LoadedInto s (OutcomeRefused r) us ms
+trailer-into s r e us ms = into-refused s r us ms (verdict-refused s r e)
+
+module _ (s : List ℕ) (g : Shape) (e : trailerOutcome s ≡ Fits g) (us ms : List ℕ) where
+  shape : g ≡ shapeOf s
+  shape = sym (fits-on s g e .shape)
+
+  pub surveyed-into : (ok : Bool) → Surveyed s ok us ms → ok ≡ true → LoadedInto s (Sound g) us ms
+  surveyed-into ok h t =
+      into-sound s g us ms shape (verdict-fits s g e ∙ passed-yes (chunkVerdict s) (sym (h .right) ∙ t)) (h .units-left t) (h .maps-left t)
+
+  module _ (v : Verdict) (h : Judged s v us ms) where
+    pub judged-into : v ≡ Passed → LoadedInto s (Sound g) us ms
+    judged-into p = into-sound s g us ms shape (verdict-fits s g e ∙ sym (h .right) ∙ p) (h .units-left p) (h .maps-left p)
+
+    pub judged-refuses : (r : Refusal) → v ≡ Refused r → LoadedInto s (OutcomeRefused r) us ms
+    judged-refuses r p = into-refused s r us ms (verdict-fits s g e ∙ sym (h .right) ∙ p)

@@ -3,12 +3,13 @@
 --     some-map-free               a fitting image has a free map
 --     units-free                  with N-R at least (C+1)·P, at least P units are free
 --     free-and-held               in a sound image free and held units are N-R in all
+--     free-and-named              and free maps and mapped chunks are M
 use Prim.Native.Nat.{ℕ, _+_, _-_, _*_, _≤_, _<_}
 use native.Mathlib.Omega.{arith}
 use mathlib.Core.Path.{_≡_, sym, ap, ap₂, subst, _∙_}
 use mathlib.Core.Logic.{⊎-elim}
 use mathlib.Core.Bool.{Bool, true, false, not, _&&_}
-use mathlib.Core.List.{List, [], _∷_, _++_}
+use mathlib.Core.List.{List, _++_}
 use lib.ListN.{length}
 use lib.Dec.{eqb, ltb, leb}
 use borrow.Author.Tests.{ltb-true, lt-ltb, leb-true, leb-false, eqb-false, ne-eqb, not-true}
@@ -16,18 +17,22 @@ use Rattle.search.specs.Search.{from, below, keep, member, distinct, joined}
 use Rattle.layout.specs.declared.Shape.{Shape}
 use Rattle.layout.specs.Layout.{isUnit, shapeOf, linkOf, fitting}
 use Rattle.image.specs.Claims.{Tested}
-use Rattle.image.specs.Soundness.{unitsOf}
+use Rattle.image.specs.Soundness.{mapped, unitsOf}
+use Rattle.image.specs.Verdicts.{goodLink, goodMap}
+use Rattle.image.specs.Survey.{namesOf, namedBelow}
 use Rattle.image.specs.Free.{freeUnit, freeMap, freeUnits, freeMaps, heldUnits}
-use Rattle.search.proofs.Bools.{contradict, either, and-left, and-right, and-intro, not-of-false, is-false, same}
-use Rattle.search.proofs.Members.{member-nil, member-cons, member-head}
-use Rattle.search.proofs.Ranges.{member-from, member-below, below-member, any-below, any-below-intro, any-below-none, any-below-none-intro, length-from}
-use Rattle.search.proofs.Kept.{keep-all, keep-none, keep-ext, keep-cut}
+use Rattle.search.proofs.Bools.{either, and-left, and-right, and-intro, not-of-false}
+use Rattle.search.proofs.Ranges.{member-from, member-below, below-member, any-below, any-below-none, any-below-none-intro, length-from}
+use Rattle.search.proofs.Kept.{keep-all, keep-none, keep-ext, keep-cut, member-keep}
 use Rattle.search.proofs.Distinct.{distinct-from}
-use Rattle.search.proofs.Counting.{left-at-least, left-exactly, unlisted}
-use Rattle.search.proofs.Joined.{distinct-joined, member-joined, length-joined}
+use Rattle.search.proofs.Counting.{left-at-least, left-exactly, unlisted, unlisted-exactly}
+use Rattle.search.proofs.Joined.{member-joined, length-joined, length-joined-low, joined-kept}
 use Rattle.search.specs.Sets.{without}
-use Rattle.layout.proofs.Limits.{fitting-limits, unit-below, unit-unreserved, between-unit, reserved-no-unit}
-use Rattle.image.proofs.Chunks.{length-units, units-are-units, clash-units}
+use Rattle.layout.proofs.Limits.{maps-few, fitting-limits, unit-below, unit-unreserved, between-unit, reserved-no-unit}
+use Rattle.image.proofs.Chunks.{length-units, units-are-units, mapped-named, unmapped-absent}
+use Rattle.image.proofs.SoundLaws.{tested-chunks}
+use Rattle.image.proofs.Surveying.{names-absent, names-named}
+use Rattle.image.proofs.Surveyed.{names, names-few, named-maps, units-once, names-once, named-any}
 
 -- ---- the tests
 
@@ -47,7 +52,8 @@ unfolding freeUnit
 freeUnit-unheld s u e =
     any-below-none (λ i. member u (unitsOf s i)) (shapeOf s .c) (not-true _ (and-right (isUnit (shapeOf s) u) _ e))
 
-pub freeUnit-intro : (s : List ℕ) (u : ℕ) → isUnit (shapeOf s) u ≡ true → ((i : ℕ) → i < shapeOf s .c → member u (unitsOf s i) ≡ false) → freeUnit s u ≡ true
+pub freeUnit-intro : (s : List ℕ) (u : ℕ) → isUnit (shapeOf s) u ≡ true → ((i : ℕ) → i < shapeOf s .c → member u (unitsOf s i) ≡ false)
+    → freeUnit s u ≡ true
 unfolding freeUnit
 freeUnit-intro s u h f =
     and-intro (isUnit (shapeOf s) u) _ h
@@ -71,33 +77,22 @@ freeMap-intro s k h f =
 
 -- ---- how many
 
-pub free-maps-count : (s : List ℕ) → shapeOf s .m ≤ length (freeMaps s) + shapeOf s .c
-unfolding freeMaps without
-free-maps-count s =
-    let m = shapeOf s .m in
-    let names = joined (λ i. linkOf s i ∷ []) (below (shapeOf s .c)) in
-    let a = unlisted m names in
-    let b : length names ≤ length (below (shapeOf s .c)) * 1 = length-joined (λ i. linkOf s i ∷ []) 1 (below (shapeOf s .c)) (λ i. omega arith) in
-    let c = length-from 0 (shapeOf s .c) in
-    let e = ap length (keep-ext (without (λ u. true) names) (freeMap s) (below m) (λ k h. step k (member-below k m h))) in
-    omega arith
-  where
-    one : (k i : ℕ) → member k (linkOf s i ∷ []) ≡ true → linkOf s i ≡ k
-    one k i e = ⊎-elim (λ q. sym q) (λ q. contradict q (member-nil k)) (member-cons k (linkOf s i) [] e)
+module _ (s : List ℕ) (e : fitting s ≡ true) where
+  -- the free maps are those that no chunk names
+  keep-unnamed : keep (without (λ u. true) (names s)) (below (shapeOf s .m)) ≡ freeMaps s
+  unfolding freeMaps freeMap without
+  keep-unnamed = keep-ext (without (λ u. true) (names s)) (freeMap s) (below (shapeOf s .m)) (λ k h.
+      let low = member-below k (shapeOf s .m) h in
+      rw (lt-ltb k (shapeOf s .m) low, named-any s k (omega (arith, maps-few (shapeOf s) (fitting-limits s e)))))
 
-    step : (k : ℕ) → k < shapeOf s .m → without (λ u. true) (joined (λ i. linkOf s i ∷ []) (below (shapeOf s .c))) k ≡ freeMap s k
-    step k h =
-        same _ (freeMap s k)
-        (λ e. freeMap-intro s k h (λ i l q. contradict
-        (any-below-intro (λ j. member k (linkOf s j ∷ [])) (shapeOf s .c) i l (member-head k (linkOf s i) [] (sym q)))
-        (sym (member-joined (λ j. linkOf s j ∷ []) k (below (shapeOf s .c))) ∙ not-true _ e)))
-        (λ e. not-of-false _ (member-joined (λ j. linkOf s j ∷ []) k (below (shapeOf s .c))
-        ∙ any-below-none-intro (λ j. member k (linkOf s j ∷ [])) (shapeOf s .c) (λ i l.
-        is-false _ (λ q. freeMap-unnamed s k e i l (one k i q)))))
-
--- a fitting image has a free map
-pub some-map-free : (s : List ℕ) → fitting s ≡ true → 1 ≤ length (freeMaps s)
-some-map-free s e = let a = free-maps-count s in let l = fitting-limits s e in omega (arith, l .m-low)
+  -- a fitting image has a free map
+  pub some-map-free : 1 ≤ length (freeMaps s)
+  some-map-free =
+      let a = unlisted (shapeOf s .m) (names s) in
+      let b = length-joined (namesOf s) 1 (below (shapeOf s .c)) (names-few s) in
+      let c = length-from 0 (shapeOf s .c) in
+      let k = ap length keep-unnamed in
+      omega (arith, fitting-limits s e .m-low)
 
 -- free is what is a unit and not held
 free-unheld : (s : List ℕ) (u : ℕ) → without (isUnit (shapeOf s)) (heldUnits s) u ≡ freeUnit s u
@@ -155,8 +150,7 @@ units-free s h = let a = free-units-count s in let b = held-high s in omega arit
 
 pub distinct-held : (s : List ℕ) → Tested s → distinct (heldUnits s) ≡ true
 unfolding heldUnits
-distinct-held s z =
-    distinct-joined (unitsOf s) 0 (shapeOf s .c) (λ j h. z .single j (omega arith)) (λ j k h l. clash-units s j k (z .apart j k h (omega arith)))
+distinct-held s z = units-once s (tested-chunks z)
 
 pub free-and-held : (s : List ℕ) → Tested s → length (freeUnits s) + length (heldUnits s) ≡ shapeOf s .n - shapeOf s .r
 free-and-held s z =
@@ -165,4 +159,18 @@ free-and-held s z =
     (below-member u n (held-below s u m), held-unit s u m)) in
     let e = ap length (keep-unheld s) in
     let k = units-many (shapeOf s) (omega (arith, fitting-limits s (z .fitting) .r-high)) in
+    omega arith
+
+-- each mapped chunk names a map of its own
+pub free-and-named : (s : List ℕ) → Tested s → length (freeMaps s) + length (keep (mapped s) (below (shapeOf s .c))) ≡ shapeOf s .m
+unfolding namedBelow
+free-and-named s z =
+    let c = shapeOf s .c in
+    let a = unlisted-exactly (shapeOf s .m) (names s) (names-once s (tested-chunks z)) (λ k h.
+    named-maps s c k (λ i l. and-intro (goodLink s i) (goodMap s i) (z .links i l) (z .maps i l)) h) in
+    let e = ap length (keep-unnamed s (z .fitting)) in
+    let n = ap length (joined-kept (namesOf s) (mapped s) (below c) (λ i h. names-absent s i (unmapped-absent s i h))) in
+    let most = length-joined (namesOf s) 1 (keep (mapped s) (below c)) (names-few s) in
+    let least = length-joined-low (namesOf s) 1 (keep (mapped s) (below c)) (λ i h.
+    omega (arith, ap length (names-named s i (mapped-named s i (member-keep (mapped s) i (below c) h .1))))) in
     omega arith

@@ -1,6 +1,6 @@
 -- Laws of rows 4 to 6: which refusal each finding of the scans gives; and laws of 01's own verdict.
 use Prim.Native.Nat.{ℕ, _<_, _≤_}
-use mathlib.Core.Path.{_≡_, ap, sym, _∙_}
+use mathlib.Core.Path.{_≡_, ap, sym}
 use mathlib.Core.Bool.{true, false, not}
 use mathlib.Core.List.{List}
 use lib.ListN.{length}
@@ -9,13 +9,10 @@ use native.Mathlib.Omega.{arith}
 use borrow.Author.Tests.{lt-ltb, le-ltb, not-false}
 use Rattle.layout.specs.declared.Shape.{Shape}
 use Rattle.layout.specs.declared.Refusal.the-variants.{Foreign, BadLink, BadMap, Shared}
-use Rattle.image.specs.declared.Verdict.{Verdict}
 use Rattle.image.specs.declared.Verdict.the-variants.{Refused, Passed}
-use Rattle.image.specs.declared.Loaded.{Loaded}
 use Rattle.layout.specs.Layout.{firstEdition, trailerBytes, knownAs, shapeOf}
 use Rattle.image.specs.Verdicts.{goodLink, badLink, badMap, doubleClaim, firstClaim, clash, contested, chunkVerdict, verdict, asFirst, firstVerdict}
 use Rattle.image.specs.Claims.{Scanned, Judged}
-use Rattle.image.specs.Loading.{answer, loaded}
 use Rattle.search.proofs.Bools.{cond-true, cond-false, or-right, or-none}
 use Rattle.search.proofs.Ranges.{lowest-before, lowest-le}
 use Rattle.layout.specs.declared.Refusal.{Refusal}
@@ -55,7 +52,7 @@ module _ (s : List ℕ) (g : Shape) (e : g ≡ shapeOf s) (i : ℕ) (ei : i ≡ 
       unfolding doubleClaim
       all-claimed h = omega (arith, chunks, lowest-le (contested s) (shapeOf s .c))
 
--- ---- what `judge` owes, and what load makes of it
+-- ---- what `judge` owes
 
 pub judged-refused : (s : List ℕ) (r : Refusal) (units maps : List ℕ) → chunkVerdict s ≡ Refused r → Judged s (Refused r) units maps
 judged-refused s r units maps e = record { right = sym e; units-left = λ p. absurd (not-passed p); maps-left = λ p. absurd (not-passed p) }
@@ -66,16 +63,6 @@ judged-refused s r units maps e = record { right = sym e; units-left = λ p. abs
 pub judged-passed : (s : List ℕ) (j : ℕ) (units maps : List ℕ) → chunkVerdict s ≡ Passed → j ≡ shapeOf s .c → Scanned s j units maps
     → Judged s Passed units maps
 judged-passed s j units maps e h r = record { right = sym e; units-left = λ p. r .units-left h; maps-left = λ p. r .maps-left h }
-
-module _ (s : List ℕ) (g : Shape) (v : Verdict) (units maps : List ℕ) (e : g ≡ shapeOf s) (o : verdict s ≡ chunkVerdict s) (r : Judged s v units maps) where
-  pub passed-answer : v ≡ Passed → _≡_ {A = Loaded} (record { verdict = Passed; shape = g; units = units; maps = maps }) (loaded s)
-  passed-answer p =
-      let q : _≡_ {A = Loaded} (record { verdict = Passed; shape = g; units = units; maps = maps }) (answer Passed s) =
-      λ t. record { verdict = Passed; shape = e t; units = r .units-left p t; maps = r .maps-left p t } in
-      q ∙ ap (λ (w : Verdict). answer w s) (sym (o ∙ sym (r .right) ∙ p))
-
-  pub refused-verdict : (x : Refusal) → v ≡ Refused x → verdict s ≡ Refused x
-  refused-verdict x p = o ∙ sym (r .right) ∙ p
 
 pub first-le : (s : List ℕ) (j : ℕ) → firstClaim s j ≤ j
 unfolding firstClaim

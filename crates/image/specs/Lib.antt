@@ -6,3 +6,5 @@ pub mod Stored
 pub mod Loading
 pub mod Answers
 pub mod Claims
+pub mod Survey
+pub mod Outcomes

@@ -6,7 +6,7 @@ use layout::Shape;
 
 pub mod claims;
 pub mod clashes;
-pub mod load;
+pub mod judge;
 pub mod maps;
 pub mod scan;
 
@@ -18,6 +18,12 @@ pub const MAP_SET_WORDS: usize = (MAX_MAPS as usize + 63) / 64;
 // Whether an image is sound, or the first refusal that holds of it.
 pub enum Verdict {
     Passed,
+    Refused(Refusal),
+}
+
+// A sound image's shape, or the first refusal of any other.
+pub enum Outcome {
+    Sound(Shape),
     Refused(Refusal),
 }
 

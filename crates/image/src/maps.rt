@@ -73,7 +73,7 @@ pub fn held_count(image: &[u8], g: Shape, k: usize) -> usize
 }
 
 // Whether map k holds only X from its word `start` on, of those that name units.
-pub(crate) fn absent_from(image: &[u8], g: Shape, k: usize, start: usize) -> bool
+pub fn absent_from(image: &[u8], g: Shape, k: usize, start: usize) -> bool
     requires { ⌜ Shaped (now image) g ⌝ }
     requires { ⌜ (k < g .m) × (start ≤ g .p) ⌝ }
     ensures { λ r. ⌜ r ≡ all (eqb X) (drop start (unitWordsOf (now (image .entry)) k)) ⌝ }
@@ -90,7 +90,7 @@ pub(crate) fn absent_from(image: &[u8], g: Shape, k: usize, start: usize) -> boo
 }
 
 // Whether map k, which holds `count` units, has a size of just so many, or none.
-pub(crate) fn size_fits(image: &[u8], g: Shape, k: usize, count: usize) -> bool
+pub fn size_fits(image: &[u8], g: Shape, k: usize, count: usize) -> bool
     requires { ⌜ Shaped (now image) g ⌝ }
     requires { ⌜ (k < g .m) × (1 ≤ count) × (count ≤ g .p) ⌝ }
     ensures { λ r. ⌜ r ≡ sizeFits (shapeOf (now (image .entry))) count (mapOf (now (image .entry)) k) ⌝ }

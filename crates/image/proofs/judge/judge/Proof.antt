@@ -1,9 +1,9 @@
--- `image::load::judge` meets its contract: each finding of the scans gives its row, by the laws of Verdicts.
+-- `image::judge::judge` meets its contract: each finding of the scans gives its row, by the laws of Verdicts.
 use Rattle.image.proofs.Verdicts.{link-refused, good-links, map-refused, shared-refused, found-sound, all-claimed, judged-refused, judged-passed, first-le}
 use native.Mathlib.Omega.{arith}
 use borrow.Author.Needs.{needs}
-use Rattle.image.proofs.load.judge.Statement.{statement}
-use Rattle.image.proofs.load.judge.Tie as tie
+use Rattle.image.proofs.judge.judge.Statement.{statement}
+use Rattle.image.proofs.judge.judge.Tie as tie
 
 cast-c : tie.Need-cast-c
 cast-c c = search needs
