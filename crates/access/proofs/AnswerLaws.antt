@@ -17,7 +17,8 @@ use Rattle.access.specs.declared.Split.{Split}
 use Rattle.access.specs.declared.Split.the-variants.{Pieces, Refused as NotSplit}
 use Rattle.access.specs.declared.Access.{Access}
 use Rattle.access.specs.declared.Access.the-variants.{Nothing, Zeros, Chunk, Refused as Denied}
-use Rattle.access.specs.Ranges.{chunkBytes, goodRange, firstChunk, lastChunk, pieceCount, pieces, piecesOf, encodeAll, splitIn, splitAnswer, written, splitOut, covers, readsFirst, accessAnswer}
+use Rattle.access.specs.Ranges.{chunkBytes, goodRange, firstChunk, lastChunk, pieceCount, pieces, piecesOf, encodeAll}
+use Rattle.access.specs.Ranges.{splitIn, splitAnswer, written, splitOut, covers, readsFirst, accessAnswer}
 use Rattle.access.proofs.PieceLaws.{length-pieces, stored-front}
 
 -- ---- split
@@ -52,7 +53,7 @@ module _ (g : Shape) (offset span : ℕ) (out : List ℕ) where
         left-by (Pieces count) after (rw (e, ← counted, le-ltb (length out) (12 * count) h))
         (ea ∙ ap (λ (k : ℕ). sets out 0 (encodeAll (pieces k offset (offset + span)))) eb ∙ stored-front (piecesOf g offset span) count out counted h)
 
--- and of an image, by what load said of it
+-- and of an image, by its verdict
 module _ (s : List ℕ) (offset span : ℕ) (out : List ℕ) where
   pub split-refused : (r : Refusal) → verdict s ≡ Unsound r
       → (NotSplit r ≡ splitAnswer s offset span (length out)) × (out ≡ splitOut s offset span out)
@@ -94,7 +95,7 @@ module _ (g : Shape) (isMapped : ℕ → Bool) (write : Bool) (offset span : ℕ
         unfolding readsFirst
         reads-chunk x = rw (e, ← eb, eq-eqb first last h, w, x)
 
--- and of an image that load has passed
+-- and of a sound image
 pub reads-passed : (s : List ℕ) (g : Shape) (write : Bool) (offset span : ℕ) → verdict s ≡ Passed → g ≡ shapeOf s
     → (answer : Access) → answer ≡ readsFirst g (mapped s) write offset span → answer ≡ accessAnswer s write offset span
 reads-passed s g write offset span e eg answer h = rw (e, ← eg) h

@@ -13,14 +13,13 @@ use Rattle.layout.specs.Layout.{X, maxImageBytes, isUnit, head, mapWords, mapWo
 use Rattle.layout.specs.Shaped.{Shaped, unitWordsOf}
 use Rattle.layout.proofs.Limits.{map-words, map-within, image-high}
 use Rattle.image.specs.declared.Verdict.the-variants.{Refused}
-use Rattle.image.specs.declared.Loaded.{Loaded}
 use Rattle.image.specs.Soundness.{mapped}
 use Rattle.image.specs.Verdicts.{goodLink, verdict}
 use Rattle.image.specs.Claims.{heldIn}
 use Rattle.image.proofs.Leading.{length-leading}
 use Rattle.image.proofs.Chunks.{is-mapped, map-named, units-named}
 use Rattle.image.proofs.MapWords.{length-unitsIn}
-use Rattle.image.proofs.Loads.{Known}
+use Rattle.image.proofs.Loads.{KnownShape}
 use Rattle.access.specs.declared.Extent.{Extent}
 use Rattle.access.specs.declared.Status.the-variants.{Answered, Refused as Denied}
 use Rattle.access.specs.Parts.{emptyExtent, heldWords, heldOf}
@@ -47,20 +46,20 @@ module _ (s : List ℕ) (g : Shape) (i w : ℕ) (h : Shaped s g) (ew : w ≡ lin
     unfolding heldWords
     words-named = rw (is-mapped s i (λ e. hw (ew ∙ e)), units-named s i (λ e. hw (ew ∙ e)), ek, ea, ef, ew, h .same)
 
--- ---- the answers on chunk i of an image that load has refused, and of one that it has passed
+-- ---- the answers on chunk i of an image that is refused, and of a sound one
 
 pub held-refused : (s : List ℕ) (i : ℕ) (r : Refusal) → verdict s ≡ Refused r → record { status = Denied r; extent = emptyExtent } ≡ heldOf s i
 held-refused s i r e = rw e
 
-module _ (s : List ℕ) (l : Loaded) (k : Known s l) (i : ℕ) where
-  chunks : l .shape .c ≡ shapeOf s .c
-  chunks = ap (λ (g : Shape). g .c) (k .shape)
+module _ (s : List ℕ) (g : Shape) (k : KnownShape s g) (i : ℕ) where
+  chunks : g .c ≡ shapeOf s .c
+  chunks = ap (λ (h : Shape). h .c) (k .shape)
 
-  pub known-link : i < l .shape .c → goodLink s i ≡ true
+  pub known-link : i < g .c → goodLink s i ≡ true
   known-link b = k .sound .links i (omega (arith, chunks))
 
-  pub held-in : i < l .shape .c → (e : Extent) → e ≡ heldWords s i → record { status = Answered; extent = e } ≡ heldOf s i
+  pub held-in : i < g .c → (e : Extent) → e ≡ heldWords s i → record { status = Answered; extent = e } ≡ heldOf s i
   held-in b e h = rw (k .passed, lt-ltb i (shapeOf s .c) (omega (arith, chunks)), h)
 
-  pub held-out : l .shape .c ≤ i → record { status = Denied Range; extent = emptyExtent } ≡ heldOf s i
+  pub held-out : g .c ≤ i → record { status = Denied Range; extent = emptyExtent } ≡ heldOf s i
   held-out b = rw (k .passed, le-ltb i (shapeOf s .c) (omega (arith, chunks)))

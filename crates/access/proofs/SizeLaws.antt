@@ -11,13 +11,12 @@ use Rattle.layout.specs.declared.Refusal.the-variants.{Range}
 use Rattle.layout.specs.Layout.{X, unitBytes, head, shapeOf, linkOf}
 use Rattle.layout.specs.Shaped.{Shaped, mapOf}
 use Rattle.image.specs.declared.Verdict.the-variants.{Refused}
-use Rattle.image.specs.declared.Loaded.{Loaded}
 use Rattle.image.specs.Soundness.{Named}
 use Rattle.image.specs.Stored.{storedSize}
 use Rattle.image.specs.Verdicts.{verdict}
 use Rattle.image.specs.Claims.{heldIn}
 use Rattle.image.proofs.Chunks.{not-mapped, is-mapped, units-named}
-use Rattle.image.proofs.Loads.{Known}
+use Rattle.image.proofs.Loads.{KnownShape}
 use Rattle.access.specs.declared.Stored.the-variants.{Size, Refused as NotStored}
 use Rattle.access.specs.Sizes.{sizeAnswer}
 
@@ -43,17 +42,17 @@ module _ (s : List ℕ) (g : Shape) (i w : ℕ) (h : Shaped s g) (ew : w ≡ lin
     unfolding storedSize
     size-told z = rw (is-mapped s i named, ne-eqb (head (shapeOf s)) 0 (λ q. z (sym heads ∙ q)), ew)
 
--- ---- the answers, by what load said of the image
+-- ---- the answers, by what the check said of the image
 
 pub size-refused : (s : List ℕ) (i : ℕ) (r : Refusal) → verdict s ≡ Refused r → NotStored r ≡ sizeAnswer s i
 size-refused s i r e = rw e
 
-module _ (s : List ℕ) (l : Loaded) (k : Known s l) (i : ℕ) where
-  chunks : l .shape .c ≡ shapeOf s .c
-  chunks = ap (λ (g : Shape). g .c) (k .shape)
+module _ (s : List ℕ) (g : Shape) (k : KnownShape s g) (i : ℕ) where
+  chunks : g .c ≡ shapeOf s .c
+  chunks = ap (λ (h : Shape). h .c) (k .shape)
 
-  pub size-in : i < l .shape .c → (n : ℕ) → n ≡ storedSize s i → Size n ≡ sizeAnswer s i
+  pub size-in : i < g .c → (n : ℕ) → n ≡ storedSize s i → Size n ≡ sizeAnswer s i
   size-in b n e = rw (k .passed, lt-ltb i (shapeOf s .c) (omega (arith, chunks)), e)
 
-  pub size-out : l .shape .c ≤ i → NotStored Range ≡ sizeAnswer s i
+  pub size-out : g .c ≤ i → NotStored Range ≡ sizeAnswer s i
   size-out b = rw (k .passed, le-ltb i (shapeOf s .c) (omega (arith, chunks)))

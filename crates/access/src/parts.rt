@@ -2,14 +2,14 @@
 use crate::Extent;
 use crate::Held;
 use crate::Status;
-use image::Verdict;
-use image::load::load;
+use image::Outcome;
 use image::maps::link;
 use layout::ABSENT;
 use layout::Refusal;
 use layout::Shape;
 use layout::geometry::head;
 use layout::geometry::map_word_place;
+use loader::load::check_image;
 ghost use mathlib.Core.Path.{_≡_};
 ghost use mathlib.Core.Bool.{true};
 ghost use Prim.Native.Nat.{_<_, _≤_};
@@ -35,22 +35,20 @@ fn held_words(image: &[u8], g: Shape, i: usize) -> Extent
     Extent { start, end }
 }
 
-// A chunk's held words, for any image and chunk number: whether the question is answered, and where they stand. One load serves both.
+// A chunk's held words, for any image and chunk number: whether the question is answered, and where they stand. One check of the image serves both.
 pub fn find_held(image: &[u8], chunk: u64) -> Held
     ensures { λ r. ⌜
         (r ≡ heldOf (now (image .entry)) chunk) × (r .extent .start ≤ r .extent .end) × (r .extent .end ≤ length (now (image .entry)))
         ⌝ }
 {
     let none = Extent { start: 0, end: 0 };
-    let l = load(image);
-    let v = l.verdict;
-    match v {
-        Verdict::Refused(r) => Held {
+    let o = check_image(image);
+    match o {
+        Outcome::Refused(r) => Held {
             status: Status::Refused(r),
             extent: none,
         },
-        Verdict::Passed => {
-            let g = l.shape;
+        Outcome::Sound(g) => {
             let c = g.c as u64;
             if chunk < c {
                 let extent = held_words(image, g, chunk as usize);

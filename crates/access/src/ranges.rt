@@ -3,13 +3,13 @@ use crate::Access;
 use crate::PIECE_BYTES;
 use crate::Piece;
 use crate::Split;
-use image::Verdict;
-use image::load::load;
+use image::Outcome;
 use image::maps::link;
 use layout::ABSENT;
 use layout::Refusal;
 use layout::Shape;
 use layout::UNIT_BYTES;
+use loader::load::check_image;
 ghost use mathlib.Core.Path.{_≡_};
 ghost use Prim.Native.Nat.{_+_, _*_, _<_, _≤_, min, max};
 ghost use lib.ListN.{length};
@@ -143,14 +143,10 @@ pub fn split(image: &[u8], offset: u64, span: u64, out: &mut [u8]) -> Split
     ensures { λ r. ⌜ r ≡ splitAnswer (now (image .entry)) offset span (length (now (out .entry))) ⌝ }
     ensures { λ r. ⌜ now (out .exit) ≡ splitOut (now (image .entry)) offset span (now (out .entry)) ⌝ }
 {
-    let l = load(image);
-    let v = l.verdict;
-    match v {
-        Verdict::Refused(r) => Split::Refused(r),
-        Verdict::Passed => {
-            let g = l.shape;
-            split_in(g, offset, span, out)
-        }
+    let o = check_image(image);
+    match o {
+        Outcome::Refused(r) => Split::Refused(r),
+        Outcome::Sound(g) => split_in(g, offset, span, out),
     }
 }
 
@@ -192,13 +188,9 @@ fn access_in(image: &[u8], g: Shape, write: bool, offset: u64, span: u64) -> Acc
 pub fn access(image: &[u8], write: bool, offset: u64, span: u64) -> Access
     ensures { λ r. ⌜ r ≡ accessAnswer (now (image .entry)) write offset span ⌝ }
 {
-    let l = load(image);
-    let v = l.verdict;
-    match v {
-        Verdict::Refused(r) => Access::Refused(r),
-        Verdict::Passed => {
-            let g = l.shape;
-            access_in(image, g, write, offset, span)
-        }
+    let o = check_image(image);
+    match o {
+        Outcome::Refused(r) => Access::Refused(r),
+        Outcome::Sound(g) => access_in(image, g, write, offset, span),
     }
 }

@@ -1,7 +1,6 @@
 // A chunk's stored size.
 use crate::Stored;
-use image::Verdict;
-use image::load::load;
+use image::Outcome;
 use image::maps::held_count;
 use image::maps::link;
 use image::maps::map_word;
@@ -10,6 +9,7 @@ use layout::Refusal;
 use layout::Shape;
 use layout::UNIT_BYTES;
 use layout::geometry::head;
+use loader::load::check_image;
 ghost use mathlib.Core.Path.{_≡_};
 ghost use mathlib.Core.Bool.{true};
 ghost use Prim.Native.Nat.{_<_};
@@ -39,12 +39,10 @@ fn size_in(image: &[u8], g: Shape, i: usize) -> u64
 pub fn stored_size(image: &[u8], chunk: u64) -> Stored
     ensures { λ r. ⌜ r ≡ sizeAnswer (now (image .entry)) chunk ⌝ }
 {
-    let l = load(image);
-    let v = l.verdict;
-    match v {
-        Verdict::Refused(r) => Stored::Refused(r),
-        Verdict::Passed => {
-            let g = l.shape;
+    let o = check_image(image);
+    match o {
+        Outcome::Refused(r) => Stored::Refused(r),
+        Outcome::Sound(g) => {
             let c = g.c as u64;
             if chunk < c {
                 return Stored::Size(size_in(image, g, chunk as usize));

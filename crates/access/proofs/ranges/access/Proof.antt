@@ -1,32 +1,45 @@
 -- `access::ranges::access` meets its contract: the refusal of the image, or what `access_in` answers.
-use borrow.Author.Needs.{needs}
-use denote.Ref.{now}
-use Rattle.image.proofs.Loads.{loaded-known, answer-refused}
 use Rattle.access.proofs.AnswerLaws.{reads-passed}
+use Rattle.image.proofs.Loads.{outcome-answer-refused, outcome-known}
+use borrow.Author.Needs.{needs}
 use Rattle.access.proofs.ranges.access.Statement.{statement}
 use Rattle.access.proofs.ranges.access.Tie as tie
 
-load-requires : tie.Need-load-requires
-load-requires c κs = search needs
+check-image-requires : tie.Need-check-image-requires
+check-image-requires c κs = search needs
 
-enum-known-v : tie.Need-enum-known-v
-enum-known-v c = search needs
+enum-known-o : tie.Need-enum-known-o
+enum-known-o c = search needs
 
-enum-told : tie.Need-enum-told
-enum-told c = search needs
+enum-known-o-2 : tie.Need-enum-known-o-2
+enum-known-o-2 c = search needs
 
 access-in-requires : tie.Need-access-in-requires
-access-in-requires c κs = loaded-known (now (c .before .before .before .before .before .args .image)) (c .before .before .before .load .result) (c .before .before .before .load .ensures) (c .before .enum-told .given .1) .shaped
+access-in-requires c κs =
+    let a = c .before .before .before .before .before .args in
+    let o = c .before .before .before .check-image in
+    outcome-known (a .image .now) _ (o .ensures) _ (c .before .o2 .given .1) .shaped
 
 returns : tie.Need-returns
-returns c = answer-refused (now (c .before .before .before .before .before .args .image)) (c .before .before .before .load .result) (c .before .before .before .load .ensures) _ _ _ (c .before .v .given .1)
+returns c =
+    let a = c .before .before .before .before .before .args in
+    let o = c .before .before .before .check-image in
+    outcome-answer-refused (a .image .now) _ (o .ensures) _ _ _ (c .before .o .given .1)
 
 returns-2 : tie.Need-returns-2
 returns-2 c =
     let a = c .before .before .before .before .before .before .args in
-    let k = loaded-known (now (a .image)) (c .before .before .before .before .load .result) (c .before .before .before .before .load .ensures) (c .before .before .enum-told .given .1) in
-    reads-passed (now (a .image)) _ (a .write) (a .offset) (a .span) (k .passed) (k .shape) _ (c .access-in .ensures)
+    let o = c .before .before .before .before .check-image in
+    let k = outcome-known (a .image .now) _ (o .ensures) _ (c .before .before .o2 .given .1) in
+    reads-passed (a .image .now) _ (a .write) (a .offset) (a .span) (k .passed) (k .shape) _ (c .access-in .ensures)
 
 pub access-spec : {M : Type 1} → statement M
 access-spec =
-    tie.close (tie.spec load-requires enum-known-v enum-told access-in-requires returns returns-2)
+    tie.close
+    (tie.spec
+    check-image-requires
+    enum-known-o
+    enum-known-o-2
+    access-in-requires
+    returns
+    returns-2)
