@@ -2,9 +2,11 @@
 use crate::Alarm;
 use crate::Level;
 use crate::counts::free_count;
-use image::Verdict;
-use image::load::load;
+use image::MAP_SET_WORDS;
+use image::Outcome;
+use image::UNIT_SET_WORDS;
 use layout::Refusal;
+use loader::load::load_into;
 ghost use mathlib.Core.Path.{_≡_};
 ghost use Rattle.report.specs.Alarms.{alarmAt, alarmAnswer};
 
@@ -47,15 +49,14 @@ fn alarm_at(free: u32, n: u32, level: Level) -> Alarm
 pub fn alarm(image: &[u8], level: Level) -> Alarm
     ensures { λ r. ⌜ r ≡ alarmAnswer (now (image .entry)) level ⌝ }
 {
-    let l = load(image);
-    let v = l.verdict;
-    match v {
-        Verdict::Refused(r) => Alarm::Refused(r),
-        Verdict::Passed => {
-            let g = l.shape;
+    let mut units = [0u64; UNIT_SET_WORDS];
+    let mut maps = [0u64; MAP_SET_WORDS];
+    let o = load_into(image, &mut units, &mut maps);
+    match o {
+        Outcome::Refused(r) => Alarm::Refused(r),
+        Outcome::Sound(g) => {
             let n = g.n;
-            let units = l.units;
-            let free = free_count(&units);
+            let free = free_count(&units, n);
             alarm_at(free, n, level)
         }
     }

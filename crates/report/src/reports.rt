@@ -2,15 +2,19 @@
 use crate::Report;
 use crate::Reported;
 use crate::counts::free_count;
-use crate::counts::mapped_count;
+use image::MAP_SET_WORDS;
+use image::Outcome;
+use image::UNIT_SET_WORDS;
 use image::Verdict;
-use image::load::load;
 use layout::Refusal;
 use layout::Shape;
+use loader::load::load_into;
 ghost use mathlib.Core.Path.{_≡_};
-ghost use Rattle.layout.specs.Shaped.{Shaped};
-ghost use Rattle.image.specs.Verdicts.{verdict};
-ghost use Rattle.report.specs.Counts.{freeCount};
+ghost use Prim.Native.Nat.{ℕ, _+_, _-_, _*_, _<_, _≤_};
+ghost use mathlib.Core.List.{List};
+ghost use Rattle.layout.specs.Layout.{shapeOf};
+ghost use Rattle.image.specs.Claims.{Tested};
+ghost use Rattle.report.specs.Counts.{mappedCount, freeCount};
 ghost use Rattle.report.specs.Reports;
 ghost use Rattle.report.specs.Reports.{ratioIfMapped, reportOf, passedReport, refusedReport, reportAnswer};
 
@@ -31,15 +35,16 @@ fn saved_ratio(mapped: u32, saved: u32, raw: u32) -> f64
     ratio(saved, raw)
 }
 
-// The report on a sound image of shape g, of whose units `free` are free.
-fn report_in(image: &[u8], g: Shape, free: u32) -> Report
-    requires { ⌜ Shaped (now image) g ⌝ }
-    requires { ⌜ verdict (now image) ≡ Verdict.Passed ⌝ }
-    requires { ⌜ free ≡ freeCount (now image) ⌝ }
-    ensures { λ r. ⌜ r ≡ reportOf (now (image .entry)) ⌝ }
+// The report on a sound image of shape g, with so many mapped chunks and free units.
+fn report_in(g: Shape, mapped: u32, free: u32) -> Report
+    requires { ⌜ g .r + free ≤ g .n ⌝ }
+    requires { ⌜ g .n - g .r - free ≤ mapped * g .p ⌝ }
+    requires { ⌜ mapped * g .p < 4294967296 ⌝ }
+    ensures { λ r. ⌜
+        ((s : List ℕ) → Tested s → g ≡ shapeOf s → mapped ≡ mappedCount s → free ≡ freeCount s → r ≡ reportOf s)
+        ⌝ }
 {
     let n = g.n;
-    let mapped = mapped_count(image, g);
     let raw = mapped * g.p;
     let held = n - g.r - free;
     let saved = raw - held;
@@ -86,15 +91,17 @@ fn refused(r: Refusal) -> Reported
 pub fn report(image: &[u8]) -> Reported
     ensures { λ r. ⌜ r ≡ reportAnswer (now (image .entry)) ⌝ }
 {
-    let l = load(image);
-    let v = l.verdict;
-    match v {
-        Verdict::Refused(r) => refused(r),
-        Verdict::Passed => {
-            let g = l.shape;
-            let units = l.units;
-            let free = free_count(&units);
-            let report = report_in(image, g, free);
+    let mut units = [0u64; UNIT_SET_WORDS];
+    let mut maps = [0u64; MAP_SET_WORDS];
+    let o = load_into(image, &mut units, &mut maps);
+    match o {
+        Outcome::Refused(r) => refused(r),
+        Outcome::Sound(g) => {
+            let free = free_count(&units, g.n);
+            // Each mapped chunk names a map of its own: they are as many as the maps that are not free.
+            let unnamed = free_count(&maps, g.m);
+            let mapped = g.m - unnamed;
+            let report = report_in(g, mapped, free);
             passed(report)
         }
     }
