@@ -31,11 +31,13 @@ use Rattle.image.proofs.Order.{orderly-tested}
 use Rattle.image.proofs.Wording.{trailed-sound, sound-tested}
 use Rattle.repair.specs.declared.Repaired.{Repaired}
 use Rattle.repair.specs.declared.Repaired.the-variants.{Unlinked, Refused}
-use Rattle.repair.specs.Repair.{unlinks, unlinked, unlink, repaired, listBytes, listing, ifRoom, ifShaped, repairAnswer, unlessRefused, repairImage, repairList}
+use Rattle.repair.specs.Repair.{unlinks, unlinked, unlink, repaired, listBytes, listing, ifRoom, ifShaped}
+use Rattle.repair.specs.Repair.{repairAnswer, unlessRefused, repairImage, repairList}
 use Rattle.repair.specs.Reading.{numbersIn, Repairs}
 use Rattle.repair.proofs.Unlinking.{length-listBytes}
 use Rattle.repair.proofs.Answering.{unlinked-few, answer-fits, answer-refused}
-use Rattle.repair.proofs.Mending.{unlinked-chunk, chunk-unlinked, repaired-on, repaired-rest, repaired-absent, repaired-kept, repaired-orderly, tested-none, tested-same}
+use Rattle.repair.proofs.Mending.{unlinked-chunk, chunk-unlinked, repaired-on, repaired-rest, repaired-absent}
+use Rattle.repair.proofs.Mending.{repaired-kept, repaired-orderly, tested-none, tested-same}
 use Rattle.repair.proofs.Wording.{unlinks-fault, fault-unlinks}
 
 -- ---- "Answers 1 to 3 still refuse. A list buffer too short gives 10."
@@ -119,7 +121,8 @@ module _ (s : List ℕ) (room n : ℕ) (e : repairAnswer s room ≡ Unlinked n) 
       let t = repaired-on s o in
       let ends = repaired-rest s (trailerStart g) (omega arith) ∙ ends-in-trailer s b (o .known) (o .fitting) in
       subst (λ (k : Shape). Sound k (repaired s)) (t .shape)
-      (trailed-sound (repaired s) (orderly-tested (repaired-orderly s o)) (ap (λ (k : Shape). drop (trailerStart k) (repaired s)) (t .shape) ∙ ends ∙ ap trailerOf (sym (t .shape))))
+      (trailed-sound (repaired s) (orderly-tested (repaired-orderly s o))
+      (ap (λ (k : Shape). drop (trailerStart k) (repaired s)) (t .shape) ∙ ends ∙ ap trailerOf (sym (t .shape))))
 
   left-repairs : Bytes s → Repairs (shapeOf s) s (repaired s) (unlinked s)
   unfolding unlinked
@@ -185,14 +188,17 @@ pub record Unchanged (s out : List ℕ) : Type 0 where
   pub image : repairImage s (length out) ≡ s
   pub list : repairList s out ≡ out
 
-tested-unchanged : (s out : List ℕ) → Tested s → Unchanged s out
+pub tested-unchanged : (s out : List ℕ) → Tested s → Unchanged s out
 tested-unchanged s out z =
     let none = tested-none s z in
     let a = answers s (length out) 0 (record { trailer = on-fits s (z .long) (z .known) (z .fitting); count = sym (ap length none); enough = zero≤ }) in
     record {
       answer = a;
       image = ap (λ (r : Repaired). unlessRefused r (repaired s) s) a ∙ tested-same s z;
-      list = ap (λ (r : Repaired). unlessRefused r (listing s out) out) a ∙ ap (λ (xs : List ℕ). listBytes xs ++ drop (4 * length xs) out) none ∙ listBytes-nil out;
+      list =
+          ap (λ (r : Repaired). unlessRefused r (listing s out) out) a
+          ∙ ap (λ (xs : List ℕ). listBytes xs ++ drop (4 * length xs) out) none
+          ∙ listBytes-nil out;
     }
 
 pub sound-unchanged : (g : Shape) (s out : List ℕ) → Sound g s → Unchanged s out

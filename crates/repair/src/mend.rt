@@ -9,6 +9,7 @@ use layout::Refusal;
 use layout::Shape;
 use layout::Trailer;
 use layout::trailers::check_trailer;
+use loader::survey::passes;
 ghost use mathlib.Core.Path.{_≡_};
 ghost use mathlib.Core.Bool.{true};
 ghost use Prim.Native.Nat.{ℕ, _+_, _*_, _≤_, _<_};
@@ -63,7 +64,7 @@ fn repair_in(image: &mut [u8], g: Shape, out: &mut [u8]) -> Repaired
     Repaired::Unlinked(n as u32)
 }
 
-// Unlinks the chunks with a fault, and stores their numbers in `out`, a u32 each, rising: refusals 1 to 3 and 10.
+// Unlinks the chunks with a fault, and stores their numbers in `out`, a u32 each, rising: refusals 1 to 3 and 10. One pass tells a sound image, which has none.
 pub fn repair(image: &mut [u8], out: &mut [u8]) -> Repaired
     ensures { λ r. ⌜ r ≡ repairAnswer (now (image .entry)) (length (now (out .entry))) ⌝ }
     ensures { λ r. ⌜ now (image .exit) ≡ repairImage (now (image .entry)) (length (now (out .entry))) ⌝ }
@@ -71,7 +72,12 @@ pub fn repair(image: &mut [u8], out: &mut [u8]) -> Repaired
 {
     let t = check_trailer(image);
     match t {
-        Trailer::Fits(g) => repair_in(image, g, out),
+        Trailer::Fits(g) => {
+            if passes(image, g) {
+                return Repaired::Unlinked(0);
+            }
+            repair_in(image, g, out)
+        }
         Trailer::Refused(r) => Repaired::Refused(r),
     }
 }
