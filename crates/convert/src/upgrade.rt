@@ -1,8 +1,7 @@
 // The converter: refusals first, then the whole second buffer.
 use crate::Converted;
 use crate::chunks::copy_chunks;
-use image::Verdict;
-use image::load::load;
+use image::Outcome;
 use layout::FIRST_EDITION;
 use layout::LAST_EDITION;
 use layout::Refusal;
@@ -11,6 +10,7 @@ use layout::TRAILER_BYTES;
 use layout::format::format2;
 use layout::trailers::image_bytes;
 use layout::trailers::is_known;
+use loader::load::check_image;
 ghost use mathlib.Core.Path.{_≡_};
 ghost use lib.ListN.{length};
 ghost use Rattle.layout.specs.Layout.{imageBytes};
@@ -71,10 +71,9 @@ pub fn convert(image: &[u8], out: &mut [u8]) -> Converted
     if !reads_as_first(image) {
         return Converted::Refused(Refusal::Foreign);
     }
-    let l = load(image);
-    let v = l.verdict;
-    match v {
-        Verdict::Refused(r) => Converted::Refused(r),
-        Verdict::Passed => convert_in(image, l.shape, out),
+    let o = check_image(image);
+    match o {
+        Outcome::Refused(r) => Converted::Refused(r),
+        Outcome::Sound(g) => convert_in(image, g, out),
     }
 }
