@@ -35,7 +35,7 @@ module _ (s : List ℕ) where
       let b = ltb-true k (shapeOf s .m) (and-left (ltb k (shapeOf s .m)) (not (any (λ i. eqb (linkOf s i) k) (below (shapeOf s .c)))) h) in
       omega arith
 
-  pub known-is :
+  known-is :
       (r : Request) (units maps : List ℕ) → shapeOf s .n ≤ 64 * unitSetWords → shapeOf s .m ≤ 64 * mapSetWords → units ≡ bitSet (freeUnit s) unitSetWords
       → maps ≡ bitSet (freeMap s) mapSetWords
       → known (shapeOf s) (inSet units) (inSet maps) (mapped s (chunkOf r)) ≡ knownOf s r
