@@ -1,10 +1,12 @@
 // The public check of a plan against an image.
 use crate::broken::broken_rule;
-use image::Verdict;
-use image::load::load;
+use image::MAP_SET_WORDS;
+use image::Outcome;
+use image::UNIT_SET_WORDS;
 use image::maps::is_mapped;
 use layout::Refusal;
 use layout::Shape;
+use loader::load::load_into;
 use rules::Checked;
 use steps::Request;
 use steps::requests::chunk_of;
@@ -48,15 +50,14 @@ pub fn judge(
 pub fn check(image: &[u8], request: Request, plan: &[u8]) -> Checked
     ensures { λ r. ⌜ r ≡ checked (now (image .entry)) request (now (plan .entry)) ⌝ }
 {
-    let l = load(image);
-    let v = l.verdict;
-    match v {
-        Verdict::Refused(x) => Checked::Refused(x),
-        Verdict::Passed => {
-            let g = l.shape;
+    let mut units = [0u64; UNIT_SET_WORDS];
+    let mut maps = [0u64; MAP_SET_WORDS];
+    let o = load_into(image, &mut units, &mut maps);
+    match o {
+        Outcome::Refused(x) => Checked::Refused(x),
+        Outcome::Sound(g) => {
             let mapped = is_mapped(image, g, chunk_of(request));
-            let maps = l.maps;
-            judge(g, &l.units, &maps, mapped, request, plan)
+            judge(g, &units, &maps, mapped, request, plan)
         }
     }
 }
