@@ -14,18 +14,17 @@ use Rattle.search.proofs.Members.{first-member}
 use Rattle.search.proofs.Ranges.{member-below}
 use Rattle.search.proofs.Kept.{member-keep}
 use Rattle.search.proofs.Filling.{taken-few, taken-enough, taken-whole}
-use Rattle.bitset.specs.Bits.{bitSet, inSet, membersBelow}
+use Rattle.bitset.specs.Bits.{inSet, membersBelow}
 use Rattle.layout.specs.declared.Shape.{Shape}
 use Rattle.layout.specs.declared.Refusal.{Refusal}
 use Rattle.layout.specs.declared.Refusal.the-variants.{Range, Size, NoRoom}
 use Rattle.layout.specs.Layout.{X, mapWords, shapeOf, unitsFor, head}
-use Rattle.layout.specs.Shaped.{Limits}
-use Rattle.layout.proofs.Limits.{units-high}
 use Rattle.image.specs.declared.Verdict.the-variants.{Passed, Refused as Unsound}
+use Rattle.image.specs.declared.Loaded.{Loaded}
 use Rattle.image.specs.Soundness.{mapped}
 use Rattle.image.specs.Verdicts.{verdict}
 use Rattle.image.specs.Free.{freeUnit, freeUnits, freeMap}
-use Rattle.image.specs.Loading.{unitSetWords, mapSetWords}
+use Rattle.image.proofs.Loads.{Known as Loads}
 use Rattle.steps.specs.declared.Value.the-variants.{Absent}
 use Rattle.steps.specs.declared.Step.{Step}
 use Rattle.steps.specs.declared.Step.the-variants.{Link, Fence}
@@ -34,7 +33,7 @@ use Rattle.steps.specs.declared.Request.the-variants.{Write, Discard}
 use Rattle.steps.specs.Steps.{stepBytes, chunkOf, goodSize, encodeAll, putSteps}
 use Rattle.steps.proofs.Encoding.{putSteps-cons, putSteps-front}
 use Rattle.rules.specs.Rules.{Known, known, knownOf}
-use Rattle.rules.proofs.Knowing.{known-is}
+use Rattle.rules.proofs.Knowing.{known-loaded}
 use Rattle.planner.specs.declared.Planned.{Planned}
 use Rattle.planner.specs.declared.Planned.the-variants.{Steps, Refused}
 use Rattle.planner.specs.Planner.{writeSteps, lowestMap, planOf, ifRoom, planGood, planIn, planAnswer, written, planOut}
@@ -173,20 +172,16 @@ module _ (s : List ℕ) (r : Request) (out : List ℕ) where
       → (answer ≡ planAnswer s r (length out)) × (after ≡ planOut s r out)
   plan-passed e answer after h = rw e h
 
-module _ (s : List ℕ) (g : Shape) (passed : verdict s ≡ Passed) (shape : g ≡ shapeOf s) (out : List ℕ) (answer : Planned) (after : List ℕ) where
-  -- the sets that load found are the image's
-  pub write-passed :
-      (units maps : List ℕ) (i size : ℕ) → Limits g → units ≡ bitSet (freeUnit s) unitSetWords → maps ≡ bitSet (freeMap s) mapSetWords
-      → ((m : Bool) → Answers (known g (inSet units) (inSet maps) m) (Write i size) out answer after)
-      → (answer ≡ planAnswer s (Write i size) (length out)) × (after ≡ planOut s (Write i size) out)
-  write-passed units maps i size l eu em h =
-      let n : g .n ≤ 64 * unitSetWords = units-high g l in
-      let m : g .m ≤ 64 * mapSetWords = omega (arith, l .m-high, l .c-high) in
-      let same : known g (inSet units) (inSet maps) (mapped s i) ≡ knownOf s (Write i size) =
-      ap (λ (q : Shape). known q (inSet units) (inSet maps) (mapped s i)) shape
-      ∙ known-is s (Write i size) units maps (rw (← shape) n) (rw (← shape) m) eu em in
-      plan-passed s (Write i size) out passed answer after (subst (λ (kn : Known). Answers kn (Write i size) out answer after) same (h (mapped s i)))
+-- the sets that were lent to load are the image's
+pub write-passed :
+    (s : List ℕ) (l : Loaded) → Loads s l → (out : List ℕ) (answer : Planned) (after : List ℕ) (i size : ℕ)
+    → ((m : Bool) → Answers (known (l .shape) (inSet (l .units)) (inSet (l .maps)) m) (Write i size) out answer after)
+    → (answer ≡ planAnswer s (Write i size) (length out)) × (after ≡ planOut s (Write i size) out)
+write-passed s l k out answer after i size h =
+    let same = known-loaded s l k (Write i size) in
+    plan-passed s (Write i size) out (k .passed) answer after (subst (λ (kn : Known). Answers kn (Write i size) out answer after) same (h (mapped s i)))
 
+module _ (s : List ℕ) (g : Shape) (passed : verdict s ≡ Passed) (shape : g ≡ shapeOf s) (out : List ℕ) (answer : Planned) (after : List ℕ) where
   -- of a chunk that is not below C nobody asks whether it is mapped
   pub discard-passed :
       (i : ℕ) (b : Bool) → b ≡ (ltb i (g .c) && mapped s i)

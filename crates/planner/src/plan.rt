@@ -1,8 +1,9 @@
 // The planner's own plans.
 use crate::Planned;
 use bitset::lowest;
-use image::Verdict;
-use image::load::load;
+use image::MAP_SET_WORDS;
+use image::Outcome;
+use image::UNIT_SET_WORDS;
 use image::maps::is_mapped;
 use layout::ABSENT;
 use layout::MAX_CHUNK_UNITS;
@@ -12,6 +13,8 @@ use layout::geometry::head;
 use layout::geometry::is_size;
 use layout::geometry::map_words;
 use layout::geometry::units_for;
+use loader::load::check_image;
+use loader::load::load_into;
 use steps::Request;
 use steps::STEP_BYTES;
 use steps::Step;
@@ -285,15 +288,12 @@ pub fn plan_write(image: &[u8], chunk: u64, size: u64, out: &mut [u8]) -> Planne
     ensures { λ r. ⌜ r ≡ planAnswer (now (image .entry)) (Request.Write chunk size) (length (now (out .entry))) ⌝ }
     ensures { λ r. ⌜ now (out .exit) ≡ planOut (now (image .entry)) (Request.Write chunk size) (now (out .entry)) ⌝ }
 {
-    let l = load(image);
-    let v = l.verdict;
-    match v {
-        Verdict::Refused(x) => Planned::Refused(x),
-        Verdict::Passed => {
-            let g = l.shape;
-            let maps = l.maps;
-            write_on(g, &l.units, &maps, chunk, size, out)
-        }
+    let mut units = [0u64; UNIT_SET_WORDS];
+    let mut maps = [0u64; MAP_SET_WORDS];
+    let o = load_into(image, &mut units, &mut maps);
+    match o {
+        Outcome::Refused(x) => Planned::Refused(x),
+        Outcome::Sound(g) => write_on(g, &units, &maps, chunk, size, out),
     }
 }
 
@@ -302,12 +302,10 @@ pub fn plan_discard(image: &[u8], chunk: u64, out: &mut [u8]) -> Planned
     ensures { λ r. ⌜ r ≡ planAnswer (now (image .entry)) (Request.Discard chunk) (length (now (out .entry))) ⌝ }
     ensures { λ r. ⌜ now (out .exit) ≡ planOut (now (image .entry)) (Request.Discard chunk) (now (out .entry)) ⌝ }
 {
-    let l = load(image);
-    let v = l.verdict;
-    match v {
-        Verdict::Refused(x) => Planned::Refused(x),
-        Verdict::Passed => {
-            let g = l.shape;
+    let o = check_image(image);
+    match o {
+        Outcome::Refused(x) => Planned::Refused(x),
+        Outcome::Sound(g) => {
             let mapped = is_mapped(image, g, chunk);
             discard_on(g, mapped, chunk, out)
         }
