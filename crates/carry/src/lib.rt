@@ -1,11 +1,13 @@
 // Carrying a plan out on the image.
 use checker::check::judge;
-use image::Verdict;
-use image::load::load;
+use image::MAP_SET_WORDS;
+use image::Outcome;
+use image::UNIT_SET_WORDS;
 use image::maps::is_mapped;
 use layout::Refusal;
 use layout::Shape;
 use layout::geometry::map_word_place;
+use loader::load::load_into;
 use rules::Checked;
 use steps::Decoded;
 use steps::Request;
@@ -124,15 +126,14 @@ pub fn carry(image: &mut [u8], request: Request, plan: &[u8], n: u64) -> Checked
     ensures { λ r. ⌜ r ≡ carryAnswer (now (image .entry)) request (now (plan .entry)) n ⌝ }
     ensures { λ r. ⌜ now (image .exit) ≡ carryImage (now (image .entry)) request (now (plan .entry)) n ⌝ }
 {
-    let l = load(image);
-    let v = l.verdict;
-    match v {
-        Verdict::Refused(x) => Checked::Refused(x),
-        Verdict::Passed => {
-            let g = l.shape;
+    let mut units = [0u64; UNIT_SET_WORDS];
+    let mut maps = [0u64; MAP_SET_WORDS];
+    let o = load_into(image, &mut units, &mut maps);
+    match o {
+        Outcome::Refused(x) => Checked::Refused(x),
+        Outcome::Sound(g) => {
             let mapped = is_mapped(image, g, chunk_of(request));
-            let maps = l.maps;
-            carry_in(image, g, &l.units, &maps, mapped, request, plan, n)
+            carry_in(image, g, &units, &maps, mapped, request, plan, n)
         }
     }
 }
