@@ -8,13 +8,14 @@ use host::reading::read_file;
 use host::saying::labelled;
 use host::saying::number;
 use host::saying::text;
-use image::Verdict;
-use image::load::load;
+use image::MAP_SET_WORDS;
+use image::UNIT_SET_WORDS;
 use image::maps::link;
 use layout::ABSENT;
 use layout::MAX_IMAGE_BYTES;
 use layout::Refusal;
 use layout::Shape;
+use loader::load::load_into;
 ghost use Prim.Native.Nat.{_<_};
 ghost use Rattle.bitset.specs.Bits.{limit};
 ghost use Rattle.layout.specs.Shaped.{Shaped};
@@ -78,14 +79,12 @@ fn set_line(label: &[u8], set: &[u64])
 
 // Lists an image, or says why it is none.
 fn list_image(image: &[u8]) -> Outcome {
-    let l = load(image);
-    let v = l.verdict;
-    match v {
-        Verdict::Refused(r) => Outcome::Refused(r),
-        Verdict::Passed => {
-            let g = l.shape;
-            let units = l.units;
-            let maps = l.maps;
+    let mut units = [0u64; UNIT_SET_WORDS];
+    let mut maps = [0u64; MAP_SET_WORDS];
+    let o = load_into(image, &mut units, &mut maps);
+    match o {
+        image::Outcome::Refused(r) => Outcome::Refused(r),
+        image::Outcome::Sound(g) => {
             volume_line(g);
             chunk_lines(image, g);
             set_line(b"free-units ", &units);
