@@ -1,6 +1,6 @@
 -- Laws of the words that load leaves in its output: the loop that copies a set, and the answers by what the code finds.
 use Prim.Native.Nat.{ℕ, _+_, _≤_, _<_}
-use mathlib.Core.Path.{_≡_, sym, ap, _∙_}
+use mathlib.Core.Path.{_≡_, refl, sym, ap, _∙_}
 use mathlib.Core.List.{List, _++_}
 use native.Mathlib.Omega.{arith}
 use native.Mathlib.Nat.{zero-add, add-suc}
@@ -10,16 +10,18 @@ use lib.ListN.{length, getD, drop, set, length-append, drop-of-length-le}
 use lib.Seq.{sets, drop-cons}
 use Rattle.words.proofs.Laws.{sets-append, sets-front}
 use Rattle.bitset.proofs.BitSets.{length-bitSet}
+use Rattle.layout.specs.declared.Shape.{Shape}
 use Rattle.layout.specs.declared.Refusal.{Refusal}
 use Rattle.layout.specs.declared.Refusal.the-variants.{Small}
-use Rattle.image.specs.declared.Verdict.the-variants.{Passed, Refused}
-use Rattle.image.specs.declared.Loaded.{Loaded}
+use Rattle.image.specs.declared.Outcome.{Outcome}
+use Rattle.image.specs.declared.Outcome.the-variants.{Sound, Refused}
 use Rattle.image.specs.Free.{freeUnit, freeMap}
-use Rattle.image.specs.Loading.{loaded}
-use Rattle.image.proofs.Loads.{loaded-known}
+use Rattle.image.specs.Loading.{unitSetWords, mapSetWords}
+use Rattle.image.specs.Outcomes.{LoadedInto}
+use Rattle.image.proofs.Loads.{outcome-refused, outcome-passed, into-loaded}
 use Rattle.sumbilak.specs.declared.Answer.{Answer}
 use Rattle.sumbilak.specs.Answers.{given, refused}
-use Rattle.sumbilak.specs.Loading.{loadWords, wordsOf, loadAnswer, loadOut}
+use Rattle.sumbilak.specs.Loading.{loadWords, shapeWords, loadAnswer, loadOut}
 
 -- ---- the loop that copies: what is left to store gives the whole
 
@@ -40,26 +42,28 @@ stored-whole out a b c i j ei ej =
 
 -- ---- what load answers for C, by what load found
 
-length-words : (s : List ℕ) (l : Loaded) → l ≡ loaded s → l .verdict ≡ Passed → length (wordsOf l) ≡ loadWords
-length-words s l e h =
-    let k = loaded-known s l e h in
-    let u = ap length (k .units) ∙ length-bitSet (freeUnit s) 72 in
-    let m = ap length (k .maps) ∙ length-bitSet (freeMap s) 5 in
-    omega (arith, length-append (l .units) (l .maps))
-
-module _ (s : List ℕ) (l : Loaded) (e : l ≡ loaded s) (out : List ℕ) (a : Answer) where
+module _ (s : List ℕ) (o : Outcome) (us ms : List ℕ) (e : LoadedInto s o us ms) (out : List ℕ) (a : Answer) where
   abbrev Leaves : List ℕ → Type 0
   Leaves after = (a ≡ loadAnswer s (length out)) × (after ≡ loadOut s out)
 
-  pub load-refused : (r : Refusal) → l .verdict ≡ Refused r → a ≡ refused r → Leaves out
-  load-refused r h ea = rw (← e) (ea ∙ rw h, rw h)
+  pub load-refused : (r : Refusal) → o ≡ Refused r → a ≡ refused r → Leaves out
+  load-refused r h ea = rw (outcome-refused s o (e .right) r h) (ea, refl)
 
-  module _ (h : l .verdict ≡ Passed) where
+  module _ (g : Shape) (h : o ≡ Sound g) where
     pub load-small : length out < loadWords → a ≡ refused (Small 648) → Leaves out
-    load-small b ea = rw (← e) (ea ∙ rw (h, lt-ltb (length out) loadWords b), rw (h, lt-ltb (length out) loadWords b))
+    load-small b ea = rw (outcome-passed s o (e .right) g h .0, lt-ltb (length out) loadWords b) (ea, refl)
 
-    pub load-done : loadWords ≤ length out → a ≡ given (l .shape .r) 0 → (after : List ℕ) → after ≡ sets out 0 (wordsOf l) → Leaves after
+    abbrev words : List ℕ
+    words = shapeWords g ++ (us ++ ms)
+
+    length-words : length words ≡ loadWords
+    length-words =
+        let u = ap length (e .units-left g h) ∙ length-bitSet (freeUnit s) unitSetWords in
+        let m = ap length (e .maps-left g h) ∙ length-bitSet (freeMap s) mapSetWords in
+        omega (arith, length-append us ms)
+
+    pub load-done : loadWords ≤ length out → a ≡ given (g .r) 0 → (after : List ℕ) → after ≡ sets out 0 words → Leaves after
     load-done b ea after w =
-        let n = length-words s l e h in
-        let front = sets-front out (wordsOf l) (omega arith) ∙ ap (λ (k : ℕ). wordsOf l ++ drop k out) n in
-        rw (← e) (ea ∙ rw (h, le-ltb (length out) loadWords b), w ∙ front ∙ rw (h, le-ltb (length out) loadWords b))
+        let n = length-words in
+        let front = sets-front out words (omega arith) ∙ ap (λ (k : ℕ). words ++ drop k out) n in
+        rw (← into-loaded s o us ms e g h, le-ltb (length out) loadWords b) (ea, w ∙ front)

@@ -8,7 +8,7 @@ use access::Split;
 use access::Status;
 use access::Stored;
 use convert::Converted;
-use image::Loaded;
+use image::Outcome;
 use image::Verdict;
 use layout::Formatted;
 use layout::Refusal;
@@ -19,7 +19,10 @@ use report::Alarm;
 use report::Reported;
 use rules::Checked;
 ghost use mathlib.Core.Path.{_≡_};
-ghost use Prim.Native.Nat.{_≤_};
+ghost use Prim.Native.Nat.{ℕ, _≤_};
+ghost use mathlib.Core.List.{List};
+ghost use Rattle.image.specs.Loading.{loaded};
+ghost use Rattle.image.specs.Outcomes.{outcome};
 ghost use Rattle.sumbilak.specs.Answers;
 
 // An answer with its value and extent.
@@ -158,22 +161,36 @@ fn verdict(x: Verdict) -> Answer
     }
 }
 
-pub(crate) fn shape(x: Loaded) -> ShapeAnswer
-    ensures { λ a. ⌜ a ≡ Answers.shapeAnswer x ⌝ }
+// The shape of a sound image beside number 0; of any other the refusal's numbers, and 0 for the shape's.
+pub(crate) fn shape(x: Outcome) -> ShapeAnswer
+    ensures { λ a. ⌜ ((s : List ℕ) → x ≡ outcome s → a ≡ Answers.shapeAnswer (loaded s)) ⌝ }
 {
-    let v = x.verdict;
-    let a = verdict(v);
-    let g = x.shape;
-    ShapeAnswer {
-        number: a.number,
-        place: a.place,
-        second: a.second,
-        edition: g.edition as u64,
-        p: g.p as u64,
-        c: g.c as u64,
-        m: g.m as u64,
-        n: g.n as u64,
-        r: g.r as u64,
+    match x {
+        Outcome::Sound(g) => ShapeAnswer {
+            number: 0,
+            place: 0,
+            second: 0,
+            edition: g.edition as u64,
+            p: g.p as u64,
+            c: g.c as u64,
+            m: g.m as u64,
+            n: g.n as u64,
+            r: g.r as u64,
+        },
+        Outcome::Refused(r) => {
+            let a = refused(r);
+            ShapeAnswer {
+                number: a.number,
+                place: a.place,
+                second: a.second,
+                edition: 0,
+                p: 0,
+                c: 0,
+                m: 0,
+                n: 0,
+                r: 0,
+            }
+        }
     }
 }
 

@@ -53,7 +53,7 @@ pub extern "C" fn sumbilak_format2(
 pub extern "C" fn sumbilak_shape(image: &[u8]) -> ShapeAnswer
     ensures { λ r. ⌜ r ≡ shapeAnswer (loaded (now (image .entry))) ⌝ }
 {
-    let x = image::load::load(image);
+    let x = loader::load::check_image(image);
     answers::shape(x)
 }
 

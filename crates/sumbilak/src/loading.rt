@@ -2,17 +2,18 @@
 use crate::Answer;
 use crate::answers::given;
 use crate::answers::refused;
-use image::Loaded;
 use image::MAP_SET_WORDS;
+use image::Outcome;
 use image::UNIT_SET_WORDS;
-use image::Verdict;
 use layout::Refusal;
 use layout::Shape;
 ghost use mathlib.Core.Path.{_≡_};
 ghost use Prim.Native.Nat.{_+_, _≤_};
+ghost use mathlib.Core.List.{_++_};
 ghost use lib.ListN.{length};
 ghost use lib.Seq.{sets};
-ghost use Rattle.sumbilak.specs.Loading.{loadWords, shapeWords, wordsOf, loadAnswer, loadOut};
+ghost use Rattle.image.specs.Loading.{unitSetWords, mapSetWords};
+ghost use Rattle.sumbilak.specs.Loading.{loadWords, shapeWords, loadAnswer, loadOut};
 
 // P, C, M and N, and where the two sets begin and end in the output.
 const UNITS_AT: usize = 4;
@@ -48,16 +49,14 @@ fn put_shape(out: &mut [u64], g: Shape)
 }
 
 // Stores what load answered.
-fn put_loaded(out: &mut [u64], l: Loaded)
+fn put_loaded(out: &mut [u64], g: Shape, units: &[u64], maps: &[u64])
     requires { ⌜ loadWords ≤ length (now out) ⌝ }
-    ensures { λ r. ⌜ now (out .exit) ≡ sets (now (out .entry)) 0 (wordsOf l) ⌝ }
+    requires { ⌜ (length (now units) ≡ unitSetWords) × (length (now maps) ≡ mapSetWords) ⌝ }
+    ensures { λ r. ⌜ now (out .exit) ≡ sets (now (out .entry)) 0 (shapeWords g ++ (now (units .entry) ++ now (maps .entry))) ⌝ }
 {
-    let g = l.shape;
-    let units = l.units;
-    let maps = l.maps;
     put_shape(out, g);
-    put_words(out, UNITS_AT, &units);
-    put_words(out, MAPS_AT, &maps);
+    put_words(out, UNITS_AT, units);
+    put_words(out, MAPS_AT, maps);
 }
 
 // Loads an image into a lent output of at least 81 words, and answers how many units are reserved.
@@ -65,16 +64,16 @@ pub(crate) fn load(image: &[u8], out: &mut [u64]) -> Answer
     ensures { λ r. ⌜ r ≡ loadAnswer (now (image .entry)) (length (now (out .entry))) ⌝ }
     ensures { λ r. ⌜ now (out .exit) ≡ loadOut (now (image .entry)) (now (out .entry)) ⌝ }
 {
-    let l = image::load::load(image);
-    let v = l.verdict;
-    match v {
-        Verdict::Refused(r) => refused(r),
-        Verdict::Passed => {
+    let mut units = [0u64; UNIT_SET_WORDS];
+    let mut maps = [0u64; MAP_SET_WORDS];
+    let o = loader::load::load_into(image, &mut units, &mut maps);
+    match o {
+        Outcome::Refused(r) => refused(r),
+        Outcome::Sound(g) => {
             if out.len() < LOAD_WORDS {
                 return refused(Refusal::Small(LOAD_BYTES));
             }
-            let g = l.shape;
-            put_loaded(out, l);
+            put_loaded(out, g, &units, &maps);
             given(g.r as u64, 0)
         }
     }

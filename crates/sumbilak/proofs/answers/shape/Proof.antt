@@ -1,16 +1,11 @@
--- `sumbilak::answers::shape` meets its contract: the verdict's numbers come first, as `verdict` gives them, and then the shape's.
-use Rattle.sumbilak.specs.Answers.{shapeNumbers}
-use Rattle.sumbilak.specs.declared.Answer.{Answer}
-use mathlib.Core.Path.{ap}
+-- `sumbilak::answers::shape` meets its contract: the outcome of a sound image is its shape, and of any other the refusal, beside which all is 0.
 use borrow.Author.Needs.{needs}
+use Rattle.image.proofs.Loads.{outcome-refused, outcome-passed}
 use Rattle.sumbilak.proofs.answers.shape.Statement.{statement}
 use Rattle.sumbilak.proofs.answers.shape.Tie as tie
 
-verdict-requires : tie.Need-verdict-requires
-verdict-requires c κs = search needs
-
-cast-t5 : tie.Need-cast-t5
-cast-t5 c = search needs
+enum-known-x : tie.Need-enum-known-x
+enum-known-x c = search needs
 
 cast-t6 : tie.Need-cast-t6
 cast-t6 c = search needs
@@ -27,10 +22,37 @@ cast-t9 c = search needs
 cast-t10 : tie.Need-cast-t10
 cast-t10 c = search needs
 
+cast-t11 : tie.Need-cast-t11
+cast-t11 c = search needs
+
+enum-known-x-2 : tie.Need-enum-known-x-2
+enum-known-x-2 c = search needs
+
+refused-requires : tie.Need-refused-requires
+refused-requires c κs = search needs
+
 returns : tie.Need-returns
-returns c =
-    let told = c .before .before .before .before .before .before .before in
-    ap (λ (a : Answer). shapeNumbers a (told .before .args .x .shape)) (told .verdict .ensures)
+returns c = λ s e.
+    let p = outcome-passed s _ e _ (c .before .before .before .before .before .before .before .x .given .1) in
+    rw (p .0, p .1)
+
+returns-2 : tie.Need-returns-2
+returns-2 c = λ s e.
+    let a = c .refused .ensures in
+    rw (outcome-refused s _ e _ (c .before .before .x2 .given .1)) cc
 
 pub shape-spec : {M : Type 1} → statement M
-shape-spec = tie.close (tie.spec verdict-requires cast-t5 cast-t6 cast-t7 cast-t8 cast-t9 cast-t10 returns)
+shape-spec =
+    tie.close
+    (tie.spec
+    enum-known-x
+    cast-t6
+    cast-t7
+    cast-t8
+    cast-t9
+    cast-t10
+    cast-t11
+    enum-known-x-2
+    refused-requires
+    returns
+    returns-2)
