@@ -1,19 +1,19 @@
--- How many numbers a test keeps where those of a list are taken out, and that a list has no repetition exactly when its set has as many members.
+-- How many numbers a test keeps where those of a list are taken out: so many fewer exactly when the list has no number twice and each was kept.
 use Prim.Native.Nat.{ℕ, suc, _+_, _≤_, _<_}
 use native.Mathlib.Omega.{arith}
 use mathlib.Core.Path.{_≡_, refl, sym, ap, _∙_}
 use mathlib.Core.Logic.{⊎-elim}
-use mathlib.Core.Bool.{Bool, true, false, not, _&&_}
+use mathlib.Core.Bool.{Bool, true, false, not}
 use mathlib.Core.List.{List, [], _∷_}
 use lib.ListN.{length}
 use lib.Dec.{eqb}
-use borrow.Author.Tests.{eq-eqb, eqb-true, eqb-false, not-false}
+use borrow.Author.Tests.{eqb-true, eqb-false, not-false}
 use Rattle.search.specs.Search.{below, keep, member, distinct}
 use Rattle.search.specs.Sets.{put, without}
-use Rattle.search.proofs.Bools.{contradict, either, same}
+use Rattle.search.proofs.Bools.{contradict, either, is-false, is-true}
 use Rattle.search.proofs.Members.{member-nil, member-cons, member-head, member-tail, no-numbers}
 use Rattle.search.proofs.Ranges.{length-from, below-member}
-use Rattle.search.proofs.Kept.{keep-nil, keep-cons-true, keep-cons-false, keep-ext, keep-all, keep-none, keep-below-empty}
+use Rattle.search.proofs.Kept.{keep-nil, keep-cons-true, keep-cons-false, keep-ext, keep-all, keep-below-empty}
 use Rattle.search.proofs.Distinct.{distinct-nil, distinct-cons, distinct-head, distinct-tail, distinct-from}
 use Rattle.search.proofs.Taken.{put-same, put-other, without-none, without-cons}
 
@@ -83,6 +83,40 @@ left-exactly f xs (y ∷ ys) d dy h =
     let e = ap length (keep-ext (without (put f y false) ys) (without f (y ∷ ys)) xs (λ u m. without-cons f y ys u)) in
     omega arith
 
+-- and in no other case: so many are left exactly when the list has no number twice and only numbers that were kept
+module _ (f : ℕ → Bool) (xs : List ℕ) where
+  -- a number that is not kept goes without a trace
+  keep-put-unkept : (a : ℕ) → f a ≡ false → keep (put f a false) xs ≡ keep f xs
+  keep-put-unkept a h = keep-ext (put f a false) f xs (λ u m. ⊎-elim
+      (λ q. let e = eqb-true u a q in ap (put f a false) e ∙ put-same f a false ∙ sym (ap f e ∙ h))
+      (λ q. put-other f a false u (eqb-false u a q))
+      (either (eqb u a)))
+
+  fewer-kept : (a : ℕ) → length (keep f xs) ≡ suc (length (keep (put f a false) xs)) → (member a xs ≡ true) × (f a ≡ true)
+  fewer-kept a e = (
+    is-true (member a xs) (λ h. let q = ap length (keep-put-other f a xs h) in absurd (omega arith)),
+    is-true (f a) (λ h. let q = ap length (keep-put-unkept a h) in absurd (omega arith)),
+  )
+
+pub left-counted : (f : ℕ → Bool) (xs ys : List ℕ) → distinct xs ≡ true → length (keep f xs) ≡ length (keep (without f ys) xs) + length ys
+    → (distinct ys ≡ true) × ((u : ℕ) → member u ys ≡ true → (member u xs ≡ true) × (f u ≡ true))
+left-counted f xs [] d e = (distinct-nil, λ u m. contradict m (member-nil u))
+left-counted f xs (y ∷ ys) d e =
+    let g : ℕ → Bool = put f y false in
+    let w = ap length (keep-ext (without g ys) (without f (y ∷ ys)) xs (λ u m. without-cons f y ys u)) in
+    let most = left-at-least g xs ys d in
+    let one = keep-put-most f y xs d in
+    let kept = fewer-kept f xs y (omega arith) in
+    let ih = left-counted g xs ys d (omega arith) in
+    let apart : member y ys ≡ false = is-false (member y ys) (λ m. contradict (ih .1 y m .1) (put-same f y false)) in (
+      distinct-cons y ys apart (ih .0),
+      λ u m. ⊎-elim
+          (λ q. (ap (λ (z : ℕ). member z xs) q ∙ kept .0, ap f q ∙ kept .1))
+          (λ q. let k = ih .1 u q in
+          (k .0, sym (put-other f y false u (λ z. contradict (sym (ap (λ (v : ℕ). member v ys) z) ∙ q) apart)) ∙ k .1))
+          (member-cons u y ys m),
+    )
+
 -- ---- the numbers below n that are not of a list
 
 pub unlisted : (n : ℕ) (ys : List ℕ) → n ≤ length (keep (without (λ u. true) ys) (below n)) + length ys
@@ -108,50 +142,3 @@ covers n xs d e h j l =
     let others = keep (without (λ u. true) xs) (below n) in
     let none : length others ≡ 0 = omega (arith, unlisted-exactly n xs d h) in
     not-false (member j xs) (keep-below-empty (without (λ u. true) xs) n (no-numbers others none) j l)
-
--- ---- a list has no repetition exactly when its set has as many members
-
-listed-cell : (a : Bool) → (a && not a) ≡ false
-listed-cell true = refl
-listed-cell false = refl
-
-module _ (xs : List ℕ) (d : distinct xs ≡ true) where
-  none-left : (ys : List ℕ) → length (keep (without (λ u. member u ys) ys) xs) ≡ 0
-  unfolding without
-  none-left ys = ap length (keep-none (without (λ u. member u ys) ys) xs (λ u m. listed-cell (member u ys)))
-
-  -- the numbers of xs that stand in ys are no more than ys has places
-  pub listed-most : (ys : List ℕ) → length (keep (λ u. member u ys) xs) ≤ length ys
-  listed-most ys = omega (arith, left-at-least (λ u. member u ys) xs ys d, none-left ys)
-
-  module _ (y : ℕ) (ys : List ℕ) where
-    -- the head stands in the rest of the list too, or not
-    listed-again : member y ys ≡ true → length (keep (λ u. member u (y ∷ ys)) xs) ≤ length ys
-    listed-again h =
-        let e = ap length (keep-ext (λ u. member u (y ∷ ys)) (λ u. member u ys) xs (λ u m. same (member u (y ∷ ys)) (member u ys)
-        (λ p. ⊎-elim (λ q. ap (λ (z : ℕ). member z ys) q ∙ h) (λ q. q) (member-cons u y ys p)) (λ p. member-tail u y ys p))) in
-        omega (arith, listed-most ys)
-
-    listed-first : member y ys ≡ false → length (keep (λ u. member u (y ∷ ys)) xs) ≤ suc (length (keep (λ u. member u ys) xs))
-    listed-first h =
-        let f : ℕ → Bool = λ u. member u (y ∷ ys) in
-        let e = ap length (keep-ext (put f y false) (λ u. member u ys) xs (λ u m. ⊎-elim
-        (λ q. let w = eqb-true u y q in ap (put f y false) w ∙ put-same f y false ∙ sym (ap (λ (z : ℕ). member z ys) w ∙ h))
-        (λ q. let w = eqb-false u y q in put-other f y false u w
-        ∙ same (member u (y ∷ ys)) (member u ys) (λ p. ⊎-elim (λ z. absurd (w z)) (λ z. z) (member-cons u y ys p)) (λ p. member-tail u y ys p))
-        (either (eqb u y)))) in
-        omega (arith, keep-put-most f y xs d)
-
-  listed-distinct : (ys : List ℕ) → length (keep (λ u. member u ys) xs) ≡ length ys → distinct ys ≡ true
-  listed-distinct [] e = distinct-nil
-  listed-distinct (y ∷ ys) e =
-      ⊎-elim (λ h. absurd (omega (arith, listed-again y ys h)))
-      (λ h. distinct-cons y ys h (listed-distinct ys (omega (arith, listed-first y ys h, listed-most ys))))
-      (either (member y ys))
-
-  pub distinct-counted : (ys : List ℕ) → ((u : ℕ) → member u ys ≡ true → member u xs ≡ true)
-      → distinct ys ≡ eqb (length (keep (λ u. member u ys) xs)) (length ys)
-  distinct-counted ys h = same (distinct ys) (eqb (length (keep (λ u. member u ys) xs)) (length ys))
-      (λ e. eq-eqb (length (keep (λ u. member u ys) xs)) (length ys)
-      (omega (arith, left-exactly (λ u. member u ys) xs ys d e (λ u m. (h u m, m)), none-left ys)))
-      (λ e. listed-distinct ys (eqb-true _ _ e))

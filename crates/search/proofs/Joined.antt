@@ -1,7 +1,7 @@
 -- Lists joined one after the other: their members, their length, and when no number stands in them twice.
 use Prim.Native.Nat.{ℕ, zero, suc, _+_, _*_, _≤_, _<_}
 use native.Mathlib.Omega.{arith}
-use mathlib.Core.Path.{_≡_, refl, sym, ap, _∙_}
+use mathlib.Core.Path.{_≡_, refl, sym, ap, ap₂, _∙_}
 use mathlib.Core.Bool.{Bool, true, false, cond, _||_}
 use mathlib.Core.List.{List, [], _∷_, _++_, append-assoc, append-nil}
 use lib.ListN.{length, length-append}
@@ -27,6 +27,13 @@ unfolding joined
 joined-last f n =
     let e : 0 + n ≡ n = omega arith in
     ap (joined f) (from-last 0 n) ∙ joined-append f (below n) ((0 + n) ∷ []) ∙ rw (e, append-nil (f n))
+
+-- lists that agree on the numbers below n
+pub joined-ext : (f g : ℕ → List ℕ) (n : ℕ) → ((i : ℕ) → i < n → f i ≡ g i) → joined f (below n) ≡ joined g (below n)
+unfolding joined from
+joined-ext f g zero h = refl
+joined-ext f g (suc n) h =
+    joined-last f n ∙ ap₂ (λ (a b : List ℕ). a ++ b) (joined-ext f g n (λ i l. h i (omega arith))) (h n (omega arith)) ∙ sym (joined-last g n)
 
 -- joined lists of at most p numbers each
 pub length-joined : (f : ℕ → List ℕ) (p : ℕ) (xs : List ℕ) → ((x : ℕ) → length (f x) ≤ p) → length (joined f xs) ≤ length xs * p

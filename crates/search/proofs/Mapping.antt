@@ -1,12 +1,12 @@
 -- Lists that a function makes of the numbers of a range, or of a list: their elements, members and length.
 use Prim.Native.Nat.{ℕ, zero, suc, _+_, _≤_, _<_}
 use native.Mathlib.Omega.{arith}
-use native.Mathlib.Nat.{zero-add}
+use native.Mathlib.Nat.{zero-add, suc-add}
 use mathlib.Core.Path.{_≡_, refl, ap, ap₂, _∙_}
 use mathlib.Core.Logic.{_⊎_, inl, inr}
 use mathlib.Core.Bool.{true}
 use mathlib.Core.List.{List, [], _∷_, map}
-use lib.ListN.{length, getD, take, set, length-map}
+use lib.ListN.{length, getD, take, drop, set, replicate, length-map}
 use lib.Seq.{ext-getD, getD-set-same, getD-set-other}
 use borrow.Author.Count.{below-more}
 use Rattle.search.specs.Search.{from, below, member, distinct, firstOr}
@@ -90,3 +90,17 @@ module _ (f : ℕ → ℕ) where
           let high : r .0 < suc a + k = r .2 in
           let e : a ≡ r .0 = h a (r .0) (omega arith) (omega arith) (omega arith) (omega arith) (r .3) in
           omega arith
+
+-- ---- one number again and again: the first of them, and the others
+
+take-replicate : (n k x : ℕ) → n ≤ k → take n (replicate k x) ≡ replicate n x
+take-replicate zero k x h = refl
+take-replicate (suc n) zero x h = absurd (omega arith)
+take-replicate (suc n) (suc k) x h = ap (λ (l : List ℕ). x ∷ l) (take-replicate n k x (omega arith))
+
+pub take-same : (k n total x : ℕ) (xs : List ℕ) → xs ≡ replicate total x → k ≡ n → n ≤ total → take k xs ≡ replicate n x
+take-same k n total x xs e q h = ap₂ (λ (i : ℕ) (l : List ℕ). take i l) q e ∙ take-replicate n total x h
+
+pub drop-replicate : (n k x : ℕ) → drop n (replicate (n + k) x) ≡ replicate k x
+drop-replicate zero k x = rw (zero-add k)
+drop-replicate (suc n) k x = rw (suc-add n k) (drop-replicate n k x)
