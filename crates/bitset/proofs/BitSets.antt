@@ -1,25 +1,25 @@
 -- Laws of a set of n words: its words, what it contains, one number put in or taken out, and that all words of 64 bits are a set.
 use Prim.Native.Nat.{ℕ, suc, _+_, _-_, _*_, _^_, _/_, _%_, _<_, _≤_}
 use mathlib.Core.Bool.{Bool, true, false}
-use mathlib.Core.List.{List}
-use mathlib.Core.Path.{_≡_, refl, ap, sym, _∙_}
+use mathlib.Core.List.{List, _++_}
+use mathlib.Core.Path.{_≡_, refl, ap, ap₂, sym, _∙_}
 use native.Mathlib.Decide.{ℕ-discrete}
 use native.Mathlib.Nat.{zero-div, div-one, add-sub-cancel}
 use native.Mathlib.Omega.{arith}
 use mathlib.Core.Logic.{_≢_, ⊎-elim}
 use lib.Bits.{bitOr}
-use lib.ListN.{length, getD, set, replicate, length-replicate, getD-replicate, length-map, length-set, List·getD-eq-default}
+use lib.ListN.{length, getD, set, drop, replicate, length-append, length-replicate, getD-replicate, length-map, length-set, List·getD-eq-default, List·getD-append}
 use lib.Dec.{eqb}
 use lib.Pow.{shr-lt, shr-shr}
-use lib.Seq.{ext-getD, getD-set-same, getD-set-other}
+use lib.Seq.{ext-getD, getD-set-same, getD-set-other, getD-append-add}
 use Rattle.search.specs.Search.{below}
 use Rattle.search.specs.Sets.{put}
-use Rattle.search.proofs.Mapping.{getD-map-below}
+use Rattle.search.proofs.Mapping.{getD-map-below, drop-replicate}
 use Rattle.search.proofs.Ranges.{length-from}
 use Rattle.bitset.specs.Bits.{bits, bitSet, inSet, limit, inserted, removed}
 use Rattle.bitset.proofs.Digits.{digit-test, bits-ext, bits-test, bits-or, bits-out, bits-none, bits-own}
 use borrow.Author.Tests.{eqb-true, eqb-false}
-use Rattle.search.proofs.Bools.{either}
+use Rattle.search.proofs.Bools.{either, less-or-not}
 use Rattle.search.proofs.Taken.{put-same, put-other}
 
 -- ---- the words of a set
@@ -49,6 +49,27 @@ pub bitSet-none : (n : ℕ) → replicate n 0 ≡ bitSet (λ u. false) n
 bitSet-none n =
     bitSet-intro (replicate n 0) (λ u. false) n (length-replicate {A = ℕ} n 0) λ i k.
     getD-replicate n i 0 0 k ∙ sym (bits-none (λ u. false) (64 * i) 64 (λ y a b. refl))
+
+-- words of 0 behind a set that has no number there
+bitSet-wider : (f : ℕ → Bool) (n k : ℕ) → ((u : ℕ) → 64 * n ≤ u → f u ≡ false) → bitSet f n ++ replicate k 0 ≡ bitSet f (n + k)
+bitSet-wider f n k none =
+    let e = rw (length-bitSet f n, length-replicate {A = ℕ} k 0) at (length-append (bitSet f n) (replicate k 0)) in
+    bitSet-intro (bitSet f n ++ replicate k 0) f (n + k) e λ i h.
+    ⊎-elim
+    (λ (l : i < n). List·getD-append (bitSet f n) (replicate k 0) 0 i (rw (length-bitSet f n) l) ∙ bitSet-word f n i l)
+    (λ (l : n ≤ i).
+    let place : length (bitSet f n) + (i - n) ≡ i = rw (length-bitSet f n) (omega arith) in
+    rw place at (getD-append-add (bitSet f n) (replicate k 0) (i - n) 0) ∙ getD-replicate k (i - n) 0 0 (omega arith)
+    ∙ sym (bits-none f (64 * i) 64 (λ y a b. none y (omega arith))))
+    (less-or-not i n)
+
+-- where the set of f was made in the first n words of an empty one
+pub set-over : (f : ℕ → Bool) (n total : ℕ) (part before : List ℕ) → n ≤ total → before ≡ replicate total 0 → part ≡ bitSet f n
+    → ((u : ℕ) → 64 * n ≤ u → f u ≡ false) → part ++ drop n before ≡ bitSet f total
+set-over f n total part before h e p none =
+    let all : total ≡ n + (total - n) = omega arith in
+    ap₂ (λ (a b : List ℕ). a ++ drop n b) p (e ∙ ap (λ (k : ℕ). replicate k 0) all)
+    ∙ ap (λ (l : List ℕ). bitSet f n ++ l) (drop-replicate n (total - n) 0) ∙ bitSet-wider f n (total - n) none ∙ ap (bitSet f) (sym all)
 
 -- ---- the digits of a word of 64 bits
 
@@ -132,6 +153,10 @@ past-bitSet f n u h = in-past (bitSet f n) u (rw (length-bitSet f n) h)
 put-set : (f : ℕ → Bool) (n u : ℕ) (v : Bool) → bitSet (put (inSet (bitSet f n)) u v) (length (bitSet f n)) ≡ bitSet (put f u v) n
 unfolding put
 put-set f n u v = rw (length-bitSet f n) (bitSet-ext _ _ n (λ y h. rw (in-bitSet f n y h)))
+
+pub length-inserted : (ws : List ℕ) (u : ℕ) → length (inserted ws u) ≡ length ws
+unfolding inserted
+length-inserted ws u = length-bitSet _ (length ws)
 
 pub inserted-set : (f : ℕ → Bool) (n u : ℕ) → inserted (bitSet f n) u ≡ bitSet (put f u true) n
 unfolding inserted

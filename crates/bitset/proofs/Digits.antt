@@ -10,7 +10,7 @@ use lib.Dec.{eqb, ltb, leb, lit<}
 use lib.Pow.{pow-pos, shr-shr}
 use mathlib.Core.Logic.{⊎-elim}
 use borrow.Author.Tests.{lt-ltb, le-ltb, le-leb, lt-leb, ltb-true, ltb-false}
-use Rattle.search.proofs.Bools.{either, contradict}
+use Rattle.search.proofs.Bools.{either}
 use Rattle.search.specs.Sets.{put}
 use Rattle.bitset.specs.Bits.{bits}
 use Rattle.search.proofs.Taken.{put-same, put-other}
@@ -28,13 +28,6 @@ pub digit-test : (v : Bool) → eqb (digit v) 1 ≡ v
 digit-test true = refl
 digit-test false = refl
 
--- all of a test but a part of it, and that part
-digit-rest : (v part : Bool) → (part ≡ true → v ≡ true) → digit (v && not part) + digit part ≡ digit v
-digit-rest true true h = refl
-digit-rest true false h = refl
-digit-rest false true h = contradict (h refl) refl
-digit-rest false false h = refl
-
 digit-back : (d : ℕ) → d < 2 → digit (eqb d 1) ≡ d
 digit-back zero h = refl
 digit-back (suc zero) h = refl
@@ -42,7 +35,7 @@ digit-back (suc (suc d)) h = absurd (omega arith)
 
 -- ---- the digits of a test
 
-bits-lt : (f : ℕ → Bool) (base k : ℕ) → bits f base k < 2 ^ k
+pub bits-lt : (f : ℕ → Bool) (base k : ℕ) → bits f base k < 2 ^ k
 unfolding bits
 bits-lt f base zero = lit< tt
 bits-lt f base (suc k) = omega (arith, digit-le (f base), bits-lt f (suc base) k)
@@ -151,10 +144,13 @@ unfolding bits
 bits-sum f g whole base zero h = refl
 bits-sum f g whole base (suc k) h = omega (arith, h base (omega arith), bits-sum f g whole (suc base) k (λ y b. h y (omega arith)))
 
--- of numbers below n: the others below n, and these
-pub bits-others : (f : ℕ → Bool) (n base k : ℕ) → ((y : ℕ) → f y ≡ true → y < n)
-    → bits (λ u. ltb u n && not (f u)) base k + bits f base k ≡ bits (λ u. ltb u n) base k
-bits-others f n base k h = bits-sum _ _ _ base k (λ y b. digit-rest (ltb y n) (f y) (λ e. lt-ltb y n (h y e)))
+-- of all: those where it fails, and those where it holds
+digit-not : (v : Bool) → digit (not v) + digit v ≡ 1
+digit-not true = refl
+digit-not false = refl
+
+pub bits-not : (f : ℕ → Bool) (base k : ℕ) → bits (λ u. not (f u)) base k + bits f base k + 1 ≡ 2 ^ k
+bits-not f base k = rw (bits-sum (λ u. not (f u)) f (λ u. true) base k (λ y b. digit-not (f y))) (bits-full (λ u. true) base k (λ y a b. refl))
 
 -- of all numbers below `low` and some from it on: the latter, and the numbers below `low`
 digit-from : (low y : ℕ) (v : Bool) → (y < low → v ≡ true) → digit (leb low y && v) + digit (ltb y low) ≡ digit v

@@ -4,13 +4,14 @@ use mathlib.Core.Bool.{Bool, true, false}
 use mathlib.Core.List.{List}
 use mathlib.Core.Logic.{⊎-elim}
 use mathlib.Core.Path.{_≡_, ap, sym, _∙_, fun-ext}
+use native.Mathlib.Nat.{sub-zero}
 use native.Mathlib.Omega.{arith}
 use lib.ListN.{length}
 use Rattle.search.specs.Search.{below, keep, rising}
 use Rattle.search.proofs.Bools.{contradict, is-false, less-or-not}
 use Rattle.search.proofs.Kept.{keep-ext, keep-short, keep-few}
 use Rattle.search.proofs.Ranges.{member-below, length-from}
-use Rattle.bitset.specs.Bits.{bitSet, inSet, members, membersBelow}
+use Rattle.bitset.specs.Bits.{bitSet, inSet, limit, members, membersBelow}
 use Rattle.bitset.proofs.BitSets.{length-bitSet, in-bitSet, past-bitSet}
 
 -- in the first `end` words
@@ -63,3 +64,8 @@ in-holds f n u e =
 -- no more than n members are below n
 pub members-few : (ws : List ℕ) (n : ℕ) → length (membersBelow ws n) ≤ n
 members-few ws n = omega (arith, keep-few (inSet ws) (below n), length-from 0 n)
+
+-- and no more in all than there are bits
+pub members-most : (ws : List ℕ) → length (members ws) ≤ limit ws
+unfolding rising
+members-most ws = rw sub-zero (members-few ws (limit ws))

@@ -1,50 +1,21 @@
--- The numbers below `high` that are not in a set whose numbers are all below it, and a set without the numbers below `low`, word by word.
+-- A set without the numbers below `low`, the numbers outside of a range, and the numbers that are not in a set, word by word.
 use Prim.Native.Nat.{ℕ, _+_, _-_, _*_, _/_, _^_, _<_, _≤_}
 use mathlib.Core.Bool.{Bool, true, not, _&&_}
 use mathlib.Core.List.{List}
 use mathlib.Core.Logic.{⊎-elim, by-cases}
-use mathlib.Core.Path.{_≡_, ap, _∙_}
+use mathlib.Core.Path.{_≡_, ap, sym, _∙_}
 use native.Mathlib.Decide.{ℕ-discrete}
 use native.Mathlib.Omega.{arith}
 use lib.Dec.{leb, ltb}
 use lib.ListN.{length, getD, set, length-set}
 use lib.Seq.{getD-set-same, getD-set-other}
+use borrow.Author.Tests.{lt-ltb}
 use Rattle.search.proofs.Bools.{less-or-not}
-use Rattle.bitset.specs.Bits.{bits, bitSet, inSet, limit}
+use Rattle.bitset.specs.Bits.{bits, bitSet, inSet, limit, wordsFor}
 use Rattle.bitset.proofs.BitSets.{bitSet-intro, bitSet-ext, in-bitSet, length-bitSet, word-whole}
-use Rattle.bitset.proofs.Digits.{bits-from, bits-others, word-empty}
+use Rattle.bitset.proofs.Digits.{bits-lt, bits-not, bits-from, word-full, word-empty}
 
-module _ (ws : List ℕ) (high : ℕ) (small : (i : ℕ) → getD ws i 0 < 2 ^ 64) (only : (u : ℕ) → inSet ws u ≡ true → u < high) where
-  -- the word that the complement has in place of word i
-  abbrev other : ℕ → ℕ
-  other i = bits (λ u. ltb u high && not (inSet ws u)) (64 * i) 64
-
-  -- it and word i together are the word of all numbers below `high`
-  pub other-word : (i : ℕ) → other i + getD ws i 0 ≡ bits (λ u. ltb u high) (64 * i) 64
-  other-word i = rw (word-whole ws i (small i)) at (bits-others (inSet ws) high (64 * i) 64 only)
-
-  -- the words below that of `high` have been replaced
-  module _ (l : List ℕ) (e : length l ≡ length ws) (done : (k : ℕ) → k < high / 64 → getD l k 0 ≡ other k)
-      (left : (k : ℕ) → high / 64 ≤ k → getD l k 0 ≡ getD ws k 0) where
-    -- there is no other
-    pub other-words : length ws ≤ high / 64 → l ≡ bitSet (λ u. ltb u high && not (inSet ws u)) (length ws)
-    other-words h = bitSet-intro l _ (length ws) e (λ k b. done k (omega arith))
-
-    -- the last is replaced too
-    pub other-all : (v : ℕ) → v ≡ other (high / 64) → set l (high / 64) v ≡ bitSet (λ u. ltb u high && not (inSet ws u)) (length ws)
-    other-all v q =
-        bitSet-intro _ _ (length ws) (length-set l (high / 64) v ∙ e) (λ k b. by-cases (ℕ-discrete k (high / 64)) (here k b) (there k b))
-      where
-        here : (k : ℕ) → k < length ws → k ≡ high / 64 → getD (set l (high / 64) v) k 0 ≡ other k
-        here k b w = rw w (getD-set-same l (high / 64) v 0 (omega arith) ∙ q)
-
-        past : (k : ℕ) → high / 64 < k → getD ws k 0 ≡ other k
-        past k h = omega (arith, other-word k, word-empty high k h)
-
-        there : (k : ℕ) → k < length ws → (k ≡ high / 64 → ⊥) → getD (set l (high / 64) v) k 0 ≡ other k
-        there k b w =
-            getD-set-other l (high / 64) k v 0 w
-            ∙ ⊎-elim (done k) (λ h. left k h ∙ past k (omega (arith, w))) (less-or-not k (high / 64))
+-- ---- a set without the numbers below `low`
 
 -- the numbers below `low`, all in the set as far as it has bits for them, are taken off
 module _ (ws : List ℕ) (low : ℕ) (small : (i : ℕ) → getD ws i 0 < 2 ^ 64)
@@ -76,3 +47,54 @@ module _ (f : ℕ → Bool) (n low : ℕ) (ws : List ℕ) (e : ws ≡ bitSet f n
   all-of h u l b =
       let k : length ws ≡ n = ap length e ∙ length-bitSet f n in
       ap (λ (l : List ℕ). inSet l u) e ∙ in-bitSet f n u (omega arith) ∙ h u l
+
+-- ---- the numbers below `low`, and those from `high` on
+
+module _ (low high : ℕ) (h : low < high) where
+  abbrev outside : ℕ → Bool
+  outside u = not (leb low u && ltb u high)
+
+  -- in word k: those below `high` are those of the range and those below `low`, and all are those below `high` and those from `high` on
+  between-word : (k : ℕ) → bits (λ u. leb low u && ltb u high) (64 * k) 64 + bits (λ u. ltb u low) (64 * k) 64 ≡ bits (λ u. ltb u high) (64 * k) 64
+  between-word k = bits-from (λ u. ltb u high) low (64 * k) 64 (λ y l b. lt-ltb y high (omega arith))
+
+  outside-word : (k : ℕ) → bits outside (64 * k) 64 + bits (λ u. ltb u high) (64 * k) 64 + 1 ≡ 2 ^ 64 + bits (λ u. ltb u low) (64 * k) 64
+  outside-word k = omega (arith, between-word k, bits-not (λ u. leb low u && ltb u high) (64 * k) 64)
+
+  -- the words below i are those of the numbers below `low`: the others, which are 0, have none
+  module _ (l : List ℕ) (i : ℕ) (e : length l ≡ wordsFor high) (past : low / 64 < i)
+      (done : (k : ℕ) → k < i → getD l k 0 ≡ bits (λ u. ltb u low) (64 * k) 64)
+      (left : (k : ℕ) → i ≤ k → k < wordsFor high → getD l k 0 ≡ 0) where
+    low-word : (k : ℕ) → k < wordsFor high → getD l k 0 ≡ bits (λ u. ltb u low) (64 * k) 64
+    low-word k b = ⊎-elim (done k) (λ m. left k m b ∙ sym (word-empty low k (omega arith))) (less-or-not k i)
+
+    pub low-among : (k : ℕ) → k < wordsFor high → getD l k 0 ≤ bits (λ u. ltb u high) (64 * k) 64
+    low-among k b = omega (arith, low-word k b, between-word k)
+
+    -- the last word, which alone has numbers from `high` on, takes them
+    pub outside-words : (last v : ℕ) → last + 1 ≡ wordsFor high → v ≡ bits (λ u. ltb u high) (64 * last) 64
+        → set l last (getD l last 0 + (2 ^ 64 - 1 - v)) ≡ bitSet outside (wordsFor high)
+    outside-words last v q w =
+        bitSet-intro _ outside (wordsFor high) (length-set l last _ ∙ e) (λ k b. by-cases (ℕ-discrete k last) (here k b) (there k b))
+      where
+        new : ℕ
+        new = getD l last 0 + (2 ^ 64 - 1 - v)
+
+        here : (k : ℕ) → k < wordsFor high → k ≡ last → getD (set l last new) k 0 ≡ bits outside (64 * k) 64
+        here k b m =
+            rw m
+            (getD-set-same l last new 0 (omega arith)
+            ∙ omega (arith, low-word last (omega arith), outside-word last, bits-lt (λ u. ltb u high) (64 * last) 64))
+
+        there : (k : ℕ) → k < wordsFor high → (k ≡ last → ⊥) → getD (set l last new) k 0 ≡ bits outside (64 * k) 64
+        there k b m = getD-set-other l last k new 0 m ∙ omega (arith, low-word k b, outside-word k, word-full high k (omega (arith, m)))
+
+-- ---- the numbers that are not in a set
+
+-- word i of it, and those that the word does not have, are all
+pub not-word : (ws : List ℕ) (i : ℕ) → getD ws i 0 < 2 ^ 64 → bits (λ u. not (inSet ws u)) (64 * i) 64 + getD ws i 0 + 1 ≡ 2 ^ 64
+not-word ws i small = rw (word-whole ws i small) at (bits-not (inSet ws) (64 * i) 64)
+
+-- what callers read off the promise of `invert`, whose set is that of f
+pub inverted-set : (f : ℕ → Bool) (n : ℕ) → bitSet (λ u. not (inSet (bitSet f n) u)) (length (bitSet f n)) ≡ bitSet (λ u. not (f u)) n
+inverted-set f n = rw (length-bitSet f n) (bitSet-ext _ _ n (λ y h. rw (in-bitSet f n y h)))

@@ -27,6 +27,10 @@ inSet ws u = eqb (getD ws (u / 64) 0 / 2 ^ (u % 64) % 2) 1
 abbrev pub limit : List ℕ → ℕ
 limit ws = 64 * length ws
 
+-- the words of a set that has a bit for each number below n
+abbrev pub wordsFor : ℕ → ℕ
+wordsFor n = (n + 63) / 64
+
 -- the set with u, and the set without u: as many words, every other number as before, and nothing changed where u has no bit
 unfoldable pub inserted : List ℕ → ℕ → List ℕ
 inserted ws u = bitSet (put (inSet ws) u true) (length ws)

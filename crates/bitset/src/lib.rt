@@ -1,12 +1,12 @@
 // Sets of numbers as lent words of 64 bits, any number of them: bit u mod 64 of word u/64 is 1 where u is in the set.
 ghost use mathlib.Core.Path.{_≡_};
 ghost use mathlib.Core.Bool.{true, not, _&&_};
-ghost use Prim.Native.Nat.{ℕ, _*_, _%_, _^_, _<_, _≤_};
-ghost use lib.ListN.{length, take};
+ghost use Prim.Native.Nat.{ℕ, _+_, _*_, _/_, _%_, _^_, _<_, _≤_};
+ghost use lib.ListN.{length, take, replicate};
 ghost use lib.Seq.{sets};
 ghost use lib.Dec.{ltb, leb};
 ghost use Rattle.search.specs.Search.{firstOr};
-ghost use Rattle.bitset.specs.Bits.{bits, bitSet, inSet, limit, inserted, removed, membersFrom, members, membersBelow};
+ghost use Rattle.bitset.specs.Bits.{bits, bitSet, inSet, limit, wordsFor, inserted, removed, membersFrom, members, membersBelow};
 
 // A word with all its bits.
 const FULL: u64 = 18446744073709551615;
@@ -30,24 +30,26 @@ fn bit(u: usize) -> u64
     1u64 << (u % 64)
 }
 
-// Puts u, which has a bit, into the set.
-pub fn place(set: &mut [u64], u: usize)
-    requires { ⌜ u < limit (now set) ⌝ }
+// Puts u into the set, where i is the number of its word.
+pub fn place(set: &mut [u64], i: usize, u: usize)
+    requires { ⌜ (i ≡ u / 64) × (i < length (now set)) ⌝ }
     ensures { λ r. ⌜ now (set .exit) ≡ inserted (now (set .entry)) u ⌝ }
 {
     let b = bit(u);
-    let i = u / 64;
     set[i] = set[i] | b;
 }
 
-// Puts u into the set: past the last word nothing changes.
-pub fn insert(set: &mut [u64], u: usize)
+// Puts u into the set, and answers whether it has a bit there: past the last word nothing changes.
+pub fn insert(set: &mut [u64], u: u64) -> bool
+    ensures { λ r. ⌜ r ≡ ltb u (limit (now (set .entry))) ⌝ }
     ensures { λ r. ⌜ now (set .exit) ≡ inserted (now (set .entry)) u ⌝ }
 {
-    if set.len() <= u / 64 {
-        return;
+    let i = u / 64;
+    if set.len() as u64 <= i {
+        return false;
     }
-    place(set, u);
+    place(set, i as usize, u as usize);
+    true
 }
 
 // Takes u out of the set: past the last word nothing changes.
@@ -117,6 +119,40 @@ pub fn fill_between(set: &mut [u64], low: usize, high: usize)
     clear_below(set, low);
 }
 
+// The words of a set that has a bit for each number below n.
+pub fn words_for(n: usize) -> usize
+    requires { ⌜ n + 63 < 2 ^ 64 ⌝ }
+    ensures { λ r. ⌜ r ≡ wordsFor n ⌝ }
+{
+    (n + 63) / 64
+}
+
+// Puts into an empty set, which has just the words that the numbers below `high` need, the numbers below `low` and those from `high` on.
+pub fn fill_outside(set: &mut [u64], low: usize, high: usize)
+    requires { ⌜ low < high ⌝ }
+    requires { ⌜ now set ≡ replicate (wordsFor high) 0 ⌝ }
+    ensures { λ r. ⌜ now (set .exit) ≡ bitSet (λ u. not (leb low u && ltb u high)) (wordsFor high) ⌝ }
+{
+    let first = low / 64;
+    let mut at: usize = 0;
+    while at <= first {
+        set[at] = word_below(low, at);
+        at += 1;
+    }
+    let last = set.len() - 1;
+    // The numbers below `low` are below `high`, so that the sum never wraps.
+    set[last] = set[last] + (FULL - word_below(high, last));
+}
+
+// Makes the set that of the numbers that were not in it, among those that have a bit.
+pub fn invert(set: &mut [u64])
+    ensures { λ r. ⌜ now (set .exit) ≡ bitSet (λ u. not (inSet (now (set .entry)) u)) (length (now (set .entry))) ⌝ }
+{
+    for at in 0..set.len() {
+        set[at] = FULL - set[at];
+    }
+}
+
 // The lowest member from word `first` on, or the limit where there is none.
 fn next_in_words(set: &[u64], first: usize) -> usize
     requires { ⌜ limit (now set) < 2 ^ 64 ⌝ }
@@ -168,36 +204,6 @@ pub fn count(set: &[u64]) -> usize
     ensures { λ r. ⌜ r ≡ length (members (now (set .entry))) ⌝ }
 {
     count_words(set, set.len())
-}
-
-// Makes a set of numbers below `high` that of the other numbers below `high`. No difference wraps: the numbers of a word are among all that it may have.
-fn complement_below(set: &mut [u64], high: usize)
-    requires { ⌜ high ≤ limit (now set) ⌝ }
-    requires { ⌜ ((u : ℕ) → inSet (now set) u ≡ true → u < high) ⌝ }
-    ensures { λ r. ⌜ now (set .exit) ≡ bitSet (λ u. ltb u high && not (inSet (now (set .entry)) u)) (length (now (set .entry))) ⌝ }
-{
-    let last = high / 64;
-    let mut at: usize = 0;
-    while at < last {
-        set[at] = FULL - set[at];
-        at += 1;
-    }
-    if last < set.len() {
-        let below = bit(high) - 1;
-        set[last] = below - set[last];
-    }
-}
-
-// Makes a set of numbers from `low` on and below `high` that of the other such numbers.
-pub fn complement(set: &mut [u64], low: usize, high: usize)
-    requires { ⌜ (low ≤ high) × (high ≤ limit (now set)) ⌝ }
-    requires { ⌜ ((u : ℕ) → inSet (now set) u ≡ true → (low ≤ u) × (u < high)) ⌝ }
-    ensures { λ r. ⌜
-        now (set .exit) ≡ bitSet (λ u. (leb low u && ltb u high) && not (inSet (now (set .entry)) u)) (length (now (set .entry)))
-        ⌝ }
-{
-    complement_below(set, high);
-    clear_below(set, low);
 }
 
 // Stores the lowest members below `end` in `out`, rising, as many as it has room for, and answers how many.

@@ -25,8 +25,10 @@ same-length c = search needs
 
 returns : tie.Need-returns
 returns c =
-    let a = c .before .before .before .args in
-    rw (c .before .bit .ensures) (insert-word (a .set .now) (a .u) (λ i. omega (arith, c .before .before .slice-known .given i)) (omega arith))
+    let start = c .before .before .before in
+    let a = start .args in
+    rw (c .before .bit .ensures, start .pre .0)
+    (insert-word (a .set .now) (a .u) (λ i. omega (arith, c .before .before .slice-known .given i)) (omega (arith, start .pre .1)))
 
 pub place-spec : {M : Type 1} → statement M
 place-spec =
