@@ -31,13 +31,11 @@ use Rattle.image.proofs.Order.{orderly-tested}
 use Rattle.image.proofs.Wording.{trailed-sound, sound-tested}
 use Rattle.repair.specs.declared.Repaired.{Repaired}
 use Rattle.repair.specs.declared.Repaired.the-variants.{Unlinked, Refused}
-use Rattle.repair.specs.Repair.{unlinks, unlinked, unlink, repaired, listBytes, listing, ifRoom, ifShaped}
-use Rattle.repair.specs.Repair.{repairAnswer, unlessRefused, repairImage, repairList}
+use Rattle.repair.specs.Repair.{unlinks, unlinked, unlink, repaired, listBytes, listing, ifRoom, ifShaped, repairAnswer, unlessRefused, repairImage, repairList}
 use Rattle.repair.specs.Reading.{numbersIn, Repairs}
 use Rattle.repair.proofs.Unlinking.{length-listBytes}
 use Rattle.repair.proofs.Answering.{unlinked-few, answer-fits, answer-refused}
-use Rattle.repair.proofs.Mending.{unlinked-chunk, chunk-unlinked, repaired-on, repaired-rest, repaired-absent}
-use Rattle.repair.proofs.Mending.{repaired-kept, repaired-orderly, tested-none, tested-same}
+use Rattle.repair.proofs.Mending.{unlinked-chunk, chunk-unlinked, repaired-on, repaired-rest, repaired-absent, repaired-kept, repaired-orderly, tested-none, tested-same}
 use Rattle.repair.proofs.Wording.{unlinks-fault, fault-unlinks}
 
 -- ---- "Answers 1 to 3 still refuse. A list buffer too short gives 10."

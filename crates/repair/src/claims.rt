@@ -20,12 +20,12 @@ ghost use Rattle.image.specs.Verdicts.{goodLink};
 ghost use Rattle.repair.specs.Claims.{claimsOf, Counted};
 
 // Counts one claim.
-fn claim(once: &mut [u64], again: &mut [u64], x: usize)
+fn claim(once: &mut [u64], again: &mut [u64], x: u64)
     ensures { λ r. ⌜
         ((xs : List ℕ) → Counted xs (now (once .entry)) (now (again .entry)) → Counted (xs ++ x ∷ []) (now (once .exit)) (now (again .exit)))
         ⌝ }
 {
-    if contains(once, x as u64) {
+    if contains(once, x) {
         insert(again, x);
     } else {
         insert(once, x);
@@ -44,7 +44,7 @@ fn claim_units(image: &[u8], g: Shape, k: usize, count: usize, once: &mut [u64],
     let mut j: usize = 0;
     while j < count {
         let u = unit_word(image, g, k, j);
-        claim(once, again, u as usize);
+        claim(once, again, u);
         j += 1;
     }
 }
@@ -63,7 +63,7 @@ pub(crate) fn claim_chunk(image: &[u8], g: Shape, i: usize, once: &mut [u64], ag
         return;
     }
     let k = w as usize;
-    claim(once, again, FIRST_MAP_CLAIM + k);
+    claim(once, again, (FIRST_MAP_CLAIM + k) as u64);
     let count = held_count(image, g, k);
     claim_units(image, g, k, count, once, again);
 }

@@ -46,7 +46,7 @@ fn classify_chunk(
     ensures { λ r. ⌜ Counted (claimsBelow (now (image .entry)) (i + 1)) (now (once .exit)) (now (again .exit)) ⌝ }
 {
     if is_bad(image, g, i) {
-        insert(faulty, i);
+        insert(faulty, i as u64);
     } else {
         claim_chunk(image, g, i, once, again);
     }
@@ -80,7 +80,7 @@ fn add_sharing(image: &[u8], g: Shape, i: usize, again: &[u64], faulty: &mut [u6
         return;
     }
     if has_claim_in(image, g, i, again) {
-        insert(faulty, i);
+        insert(faulty, i as u64);
     }
 }
 

@@ -21,13 +21,13 @@ same-length-2 : tie.Need-same-length-2
 same-length-2 c = search needs
 
 returns : tie.Need-returns
-returns c = λ xs h. claim-later xs _ _ (c .before .before .before .before .before .before .before .before .before .args .x) h _ (sym (c .before .before .before .before .before .contains .ensures) ∙ c .before .before .before .before .if1 .taken) (c .before .before .insert .ensures)
+returns c = λ xs h. claim-later xs _ _ (c .before .before .before .before .before .before .before .before .before .args .x) h _ (sym (c .before .before .before .before .before .contains .ensures) ∙ c .before .before .before .before .if1 .taken) (c .before .before .insert .ensures .1)
 
 same-length-3 : tie.Need-same-length-3
 same-length-3 c = search needs
 
 returns-2 : tie.Need-returns-2
-returns-2 c = λ xs h. claim-first xs _ _ (c .before .before .before .before .before .before .before .before .before .args .x) h _ (sym (c .before .before .before .before .before .contains .ensures) ∙ c .before .before .before .before .if1 .left) (c .before .before .insert2 .ensures)
+returns-2 c = λ xs h. claim-first xs _ _ (c .before .before .before .before .before .before .before .before .before .args .x) h _ (sym (c .before .before .before .before .before .contains .ensures) ∙ c .before .before .before .before .if1 .left) (c .before .before .insert2 .ensures .1)
 
 pub claim-spec : {M : Type 1} → statement M
 claim-spec =

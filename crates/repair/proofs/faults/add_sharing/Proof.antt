@@ -40,7 +40,7 @@ returns-2 c = let a = c .before .before .before .before .before .before .before 
     let p = chunk-here (a .args .image .now) (a .args .g) (a .args .i) (a .pre .0) (a .pre .1 .0) in
     let b = sym (known-bad (a .args .image .now) (a .args .i) (p .0) (p .1) _ (a .pre .1 .1 .1)) ∙ sym (c .before .before .before .before .before .before .before .contains .ensures) ∙ c .before .before .before .before .before .before .if1 .left in
     added-sharing (a .args .image .now) (a .args .i) (p .0) (p .1) _ (a .pre .1 .1 .1) _
-    (sym (c .before .before .before .before .before .has-claim-in .ensures ∙ claim-again (a .args .image .now) (a .args .g) (a .args .i) (a .pre .0) (a .pre .1 .0) b _ (a .pre .1 .1 .0)) ∙ c .before .before .before .before .if2 .taken) (c .before .before .insert .ensures)
+    (sym (c .before .before .before .before .before .has-claim-in .ensures ∙ claim-again (a .args .image .now) (a .args .g) (a .args .i) (a .pre .0) (a .pre .1 .0) b _ (a .pre .1 .1 .0)) ∙ c .before .before .before .before .if2 .taken) (c .before .before .insert .ensures .1)
 
 same-length-3 : tie.Need-same-length-3
 same-length-3 c = search needs

@@ -21,7 +21,7 @@ returns : tie.Need-returns
 returns c = let a = c .before .before .before .before .before .before .before .before .before .before in
     let s = a .args .image .now in
     let b = sym (c .before .before .before .before .before .is-bad .ensures) ∙ c .before .before .before .before .if1 .taken in
-    (classified-bad s (a .args .i) _ (a .pre .1 .1 .0) _ b (c .before .before .insert .ensures), counted-bad s (a .args .i) _ _ b (a .pre .1 .1 .1))
+    (classified-bad s (a .args .i) _ (a .pre .1 .1 .0) _ b (c .before .before .insert .ensures .1), counted-bad s (a .args .i) _ _ b (a .pre .1 .1 .1))
 
 same-length-2 : tie.Need-same-length-2
 same-length-2 c = search needs
