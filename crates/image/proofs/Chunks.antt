@@ -1,9 +1,9 @@
 -- What a chunk's entry says, what the chunk holds, and how two chunks that do not clash lie apart.
 use Prim.Native.Nat.{ℕ, _+_, _≤_, _<_}
 use native.Mathlib.Omega.{arith}
-use mathlib.Core.Path.{_≡_, sym, ap, _∙_}
+use mathlib.Core.Path.{_≡_, refl, sym, ap, _∙_}
 use mathlib.Core.Logic.{⊎-elim}
-use mathlib.Core.Bool.{true, false, not, _&&_, _||_}
+use mathlib.Core.Bool.{Bool, true, false, not, _&&_, _||_}
 use mathlib.Core.List.{List, []}
 use lib.ListN.{length, getD, drop, length-map, length-drop}
 use lib.Seq.{getD-drop, length-take-le}
@@ -21,6 +21,7 @@ use Rattle.layout.specs.Shaped.{Shaped, mapOf, unitWordsOf}
 use Rattle.layout.proofs.Limits.{fitting-limits, units-high, unit-below, unit-unreserved, map-words}
 use Rattle.image.specs.Soundness.{mapped, namedWords, unitsOf, leading, Named, MapForm}
 use Rattle.image.specs.Verdicts.{wellFormed, sizeFits, goodForm, goodLink, goodMap, clash}
+use Rattle.image.specs.Survey.{formBy}
 use Rattle.image.specs.Claims.{Tested, heldIn}
 use Rattle.image.proofs.Leading.{length-leading, leading-all, form-none, form-some, form-of, form-leading, well-formed}
 
@@ -45,6 +46,21 @@ getD-unitWords g s k j h = getD-drop (head g) (wordsOf g s k) j 0 ∙ getD-words
 
 -- ---- the form of a map
 
+-- by any test of the units, of which h words pass
+module _ (f : ℕ → Bool) (g : Shape) (ws : List ℕ) (h : ℕ) (e : h ≡ length (leading f (unitWords g ws))) where
+  pub form-empty : h ≡ 0 → formBy f g ws ≡ false
+  unfolding formBy
+  form-empty z = rw (form-none f (unitWords g ws) (sym e ∙ z))
+
+  pub form-held : (h ≡ 0 → ⊥) → formBy f g ws ≡ (all (eqb X) (drop h (unitWords g ws)) && sizeFits g h ws)
+  unfolding formBy
+  form-held z = rw (form-some f (unitWords g ws) (λ q. z (e ∙ q)), ← e)
+
+-- the form that row 5 asks for
+pub form-by-units : (g : Shape) (ws : List ℕ) → goodForm g ws ≡ formBy (isUnit g) g ws
+unfolding goodForm formBy
+form-by-units g ws = refl
+
 -- where the test finds a word before the units
 pub has-head : (g : Shape) → eqb (head g) 0 ≡ false → 1 ≤ head g
 has-head g e = let n = eqb-false (head g) 0 e in omega (arith, n)
@@ -52,14 +68,6 @@ has-head g e = let n = eqb-false (head g) 0 e in omega (arith, n)
 module _ (g : Shape) (ws : List ℕ) where
   abbrev held : ℕ
   held = length (leading (isUnit g) (unitWords g ws))
-
-  pub form-empty : held ≡ 0 → goodForm g ws ≡ false
-  unfolding goodForm
-  form-empty e = rw (form-none (isUnit g) (unitWords g ws) e)
-
-  pub form-held : (held ≡ 0 → ⊥) → goodForm g ws ≡ (all (eqb X) (drop held (unitWords g ws)) && sizeFits g held ws)
-  unfolding goodForm
-  form-held e = rw (form-some (isUnit g) (unitWords g ws) e)
 
   pub map-form : goodForm g ws ≡ true → MapForm g held ws
   unfolding goodForm sizeFits
@@ -135,10 +143,11 @@ unmapped-absent s i e = eqb-true (linkOf s i) X (not-false (eqb (linkOf s i) X) 
 module _ (s : List ℕ) (i k h : ℕ) (l : k ≡ linkOf s i) (x : k ≡ X → ⊥) (e : h ≡ length (heldIn s k)) where
   pub bad-form : h ≡ 0 → goodMap s i ≡ false
   bad-form z =
-      named-map s i (λ w. x (l ∙ w)) ∙ rw (← l) (form-empty (shapeOf s) (mapOf s k) (sym e ∙ z))
+      named-map s i (λ w. x (l ∙ w)) ∙ rw (← l) (form-by-units (shapeOf s) (mapOf s k) ∙ form-empty (isUnit (shapeOf s)) (shapeOf s) (mapOf s k) h e z)
 
   pub good-form : (h ≡ 0 → ⊥) → goodMap s i ≡ (all (eqb X) (drop h (unitWordsOf s k)) && sizeFits (shapeOf s) h (mapOf s k))
-  good-form z = named-map s i (λ w. x (l ∙ w)) ∙ rw (← l, e) (form-held (shapeOf s) (mapOf s k) (λ w. z (e ∙ w)))
+  good-form z =
+      named-map s i (λ w. x (l ∙ w)) ∙ rw (← l) (form-by-units (shapeOf s) (mapOf s k) ∙ form-held (isUnit (shapeOf s)) (shapeOf s) (mapOf s k) h e z)
 
 -- ---- what a chunk holds
 

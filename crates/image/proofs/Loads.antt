@@ -1,7 +1,7 @@
--- What a caller of the loader learns from its answer and the sets that it lent, and what `load_into` owes.
+-- What a caller of the loader learns from its answer and the sets that it lent, and what the loader owes.
 use Prim.Native.Nat.{ℕ}
 use mathlib.Core.Path.{_≡_, refl, sym, ap, _∙_}
-use mathlib.Core.Bool.{Bool, true}
+use mathlib.Core.Bool.{Bool, true, false, true≢false}
 use mathlib.Core.List.{List}
 use Rattle.layout.specs.declared.Refusal.{Refusal}
 use native.Mathlib.Omega.{arith}
@@ -17,9 +17,9 @@ use Rattle.image.specs.declared.Verdict.the-variants.{Refused, Passed}
 use Rattle.image.specs.declared.Loaded.{Loaded}
 use Rattle.image.specs.declared.Outcome.{Outcome}
 use Rattle.image.specs.declared.Outcome.the-variants.{Sound, Refused as OutcomeRefused}
-use Rattle.image.specs.Claims.{Tested, Judged}
+use Rattle.image.specs.Claims.{Tested}
 use Rattle.image.specs.Verdicts.{chunkVerdict, verdict}
-use Rattle.image.specs.Survey.{Surveyed}
+use Rattle.image.specs.Survey.{passed, Surveyed}
 use Rattle.image.specs.Free.{freeUnit, freeMap}
 use Rattle.image.specs.Loading.{unitSetWords, mapSetWords, answer, loaded}
 use Rattle.image.specs.Outcomes.{outcome, LoadedInto}
@@ -99,32 +99,38 @@ module _ (s : List ℕ) (o : Outcome) (us ms : List ℕ) (e : LoadedInto s o us 
         maps = e .maps-left g h;
       }
 
--- ---- what `load_into` owes at each of its returns
+-- ---- what `check_image` and `load_into` owe at each of their returns
 
-into-sound : (s : List ℕ) (g : Shape) (us ms : List ℕ) → g ≡ shapeOf s → verdict s ≡ Passed
-    → us ≡ bitSet (freeUnit s) unitSetWords → ms ≡ bitSet (freeMap s) mapSetWords → LoadedInto s (Sound g) us ms
-into-sound s g us ms q e u m = record { right = rw (e, q); units-left = λ k h. u; maps-left = λ k h. m }
+refused-outcome : (s : List ℕ) (r : Refusal) → verdict s ≡ Refused r → OutcomeRefused r ≡ outcome s
+refused-outcome s r e = rw e
 
-into-refused : (s : List ℕ) (r : Refusal) (us ms : List ℕ) → verdict s ≡ Refused r → LoadedInto s (OutcomeRefused r) us ms
-into-refused s r us ms e = record { right = rw e; units-left = λ g h. absurd (not-sound g h); maps-left = λ g h. absurd (not-sound g h) }
+pub trailer-outcome : (s : List ℕ) (r : Refusal) → trailerOutcome s ≡ TrailerRefused r → OutcomeRefused r ≡ outcome s
+trailer-outcome s r e = refused-outcome s r (verdict-refused s r e)
+
+module _ (s : List ℕ) (g : Shape) (e : trailerOutcome s ≡ Fits g) where
+  pub chunks-outcome : (r : Refusal) → chunkVerdict s ≡ Refused r → OutcomeRefused r ≡ outcome s
+  chunks-outcome r h = refused-outcome s r (verdict-fits s g e ∙ h)
+
+  pub sound-outcome : passed (chunkVerdict s) ≡ true → Sound g ≡ outcome s
+  sound-outcome h = rw (verdict-fits s g e ∙ passed-yes (chunkVerdict s) h, sym (fits-on s g e .shape))
+
+  pub surveyed-into : (ok : Bool) (us ms : List ℕ) → Surveyed s ok unitSetWords mapSetWords us ms → ok ≡ true → LoadedInto s (Sound g) us ms
+  surveyed-into ok us ms h t =
+      record { right = sound-outcome (sym (h .right) ∙ t); units-left = λ q z. h .units-left t; maps-left = λ q z. h .maps-left t }
+
+-- a refusal says nothing of the sets
+pub refused-into : (s : List ℕ) (r : Refusal) (us ms : List ℕ) → OutcomeRefused r ≡ outcome s → LoadedInto s (OutcomeRefused r) us ms
+refused-into s r us ms e = record { right = e; units-left = λ g h. absurd (not-sound g h); maps-left = λ g h. absurd (not-sound g h) }
   where
     not-sound : (g : Shape) → OutcomeRefused r ≡ Sound g → ⊥
     not-sound g h = let z : _≡_ {A = ℕ} 0 1 = cc in omega arith
 
-pub trailer-into : (s : List ℕ) (r : Refusal) → trailerOutcome s ≡ TrailerRefused r → (us ms : List ℕ) → LoadedInto s (OutcomeRefused r) us ms
-trailer-into s r e us ms = into-refused s r us ms (verdict-refused s r e)
+-- ---- what `refusal` owes
 
-module _ (s : List ℕ) (g : Shape) (e : trailerOutcome s ≡ Fits g) (us ms : List ℕ) where
-  shape : g ≡ shapeOf s
-  shape = sym (fits-on s g e .shape)
+module _ (s : List ℕ) (v : Verdict) (e : v ≡ chunkVerdict s) where
+  pub judged-refused : (r : Refusal) → v ≡ Refused r → chunkVerdict s ≡ Refused r
+  judged-refused r h = sym e ∙ h
 
-  pub surveyed-into : (ok : Bool) → Surveyed s ok us ms → ok ≡ true → LoadedInto s (Sound g) us ms
-  surveyed-into ok h t =
-      into-sound s g us ms shape (verdict-fits s g e ∙ passed-yes (chunkVerdict s) (sym (h .right) ∙ t)) (h .units-left t) (h .maps-left t)
-
-  module _ (v : Verdict) (h : Judged s v us ms) where
-    pub judged-into : v ≡ Passed → LoadedInto s (Sound g) us ms
-    judged-into p = into-sound s g us ms shape (verdict-fits s g e ∙ sym (h .right) ∙ p) (h .units-left p) (h .maps-left p)
-
-    pub judged-refuses : (r : Refusal) → v ≡ Refused r → LoadedInto s (OutcomeRefused r) us ms
-    judged-refuses r p = into-refused s r us ms (verdict-fits s g e ∙ sym (h .right) ∙ p)
+  -- the pass said no, so that the scans find a refusal
+  pub judged-some : passed (chunkVerdict s) ≡ false → v ≡ Passed → ⊥
+  judged-some n h = true≢false (ap passed (sym h ∙ e) ∙ n)

@@ -18,21 +18,19 @@ use Rattle.layout.specs.declared.Shape.{Shape}
 use Rattle.layout.specs.Layout.{isUnit, shapeOf, linkOf, fitting}
 use Rattle.image.specs.Claims.{Tested}
 use Rattle.image.specs.Soundness.{mapped, unitsOf}
-use Rattle.image.specs.Verdicts.{goodLink, goodMap}
-use Rattle.image.specs.Survey.{namesOf, namedBelow}
+use Rattle.image.specs.Survey.{namesOf}
 use Rattle.image.specs.Free.{freeUnit, freeMap, freeUnits, freeMaps, heldUnits}
 use Rattle.search.proofs.Bools.{either, and-left, and-right, and-intro, not-of-false}
 use Rattle.search.proofs.Ranges.{member-from, member-below, below-member, any-below, any-below-none, any-below-none-intro, length-from}
 use Rattle.search.proofs.Kept.{keep-all, keep-none, keep-ext, keep-cut, member-keep}
 use Rattle.search.proofs.Distinct.{distinct-from}
 use Rattle.search.proofs.Counting.{left-at-least, left-exactly, unlisted, unlisted-exactly}
-use Rattle.search.proofs.Joined.{member-joined, length-joined, length-joined-low, joined-kept}
+use Rattle.search.proofs.Joined.{member-joined, length-joined, length-joined-low, joined-kept, distinct-joined}
 use Rattle.search.specs.Sets.{without}
 use Rattle.layout.proofs.Limits.{maps-few, fitting-limits, unit-below, unit-unreserved, between-unit, reserved-no-unit}
-use Rattle.image.proofs.Chunks.{length-units, units-are-units, mapped-named, unmapped-absent}
-use Rattle.image.proofs.SoundLaws.{tested-chunks}
-use Rattle.image.proofs.Surveying.{names-absent, names-named}
-use Rattle.image.proofs.Surveyed.{names, names-few, named-maps, units-once, names-once, named-any}
+use Rattle.image.proofs.Chunks.{length-units, units-are-units, mapped-named, unmapped-absent, clash-units}
+use Rattle.image.proofs.SoundLaws.{ChunksTested, tested-chunks}
+use Rattle.image.proofs.Naming.{names-absent, names-named, names-few, names, named-maps, names-once, named-any}
 
 -- ---- the tests
 
@@ -95,7 +93,7 @@ module _ (s : List ℕ) (e : fitting s ≡ true) where
       omega (arith, fitting-limits s e .m-low)
 
 -- free is what is a unit and not held
-free-unheld : (s : List ℕ) (u : ℕ) → without (isUnit (shapeOf s)) (heldUnits s) u ≡ freeUnit s u
+pub free-unheld : (s : List ℕ) (u : ℕ) → without (isUnit (shapeOf s)) (heldUnits s) u ≡ freeUnit s u
 unfolding freeUnit heldUnits without
 free-unheld s u = ap (λ (b : Bool). isUnit (shapeOf s) u && not b) (member-joined (unitsOf s) u (below (shapeOf s .c)))
 
@@ -114,7 +112,7 @@ pub held-below : (s : List ℕ) (u : ℕ) → member u (heldUnits s) ≡ true �
 held-below s u m = unit-below (shapeOf s) u (held-unit s u m)
 
 -- a shape has N-R units
-units-many : (g : Shape) → g .r ≤ g .n → length (keep (isUnit g) (below (g .n))) ≡ g .n - g .r
+pub units-many : (g : Shape) → g .r ≤ g .n → length (keep (isUnit g) (below (g .n))) ≡ g .n - g .r
 units-many g h =
     let n : g .n ≡ g .r + (g .n - g .r) = omega arith in
     let low = keep-none (isUnit g) (from 0 (g .r)) (λ u m. reserved-no-unit g u (member-below u (g .r) m)) in
@@ -148,26 +146,35 @@ units-free s h = let a = free-units-count s in let b = held-high s in omega arit
 
 -- ---- a sound image: just so many
 
-pub distinct-held : (s : List ℕ) → Tested s → distinct (heldUnits s) ≡ true
+-- no unit is held twice
+pub units-once : (s : List ℕ) → ChunksTested s → distinct (heldUnits s) ≡ true
 unfolding heldUnits
+units-once s z =
+    distinct-joined (unitsOf s) 0 (shapeOf s .c) (λ j h. z .single j (omega arith)) (λ j k h l. clash-units s j k (z .apart j k h (omega arith)))
+
+pub distinct-held : (s : List ℕ) → Tested s → distinct (heldUnits s) ≡ true
 distinct-held s z = units-once s (tested-chunks z)
+
+-- each unit is free or held, and none is both
+pub chunks-units : (s : List ℕ) → ChunksTested s → length (keep (isUnit (shapeOf s)) (below (shapeOf s .n))) ≡ length (freeUnits s) + length (heldUnits s)
+chunks-units s z =
+    let n = shapeOf s .n in
+    let a = left-exactly (isUnit (shapeOf s)) (below n) (heldUnits s) (distinct-from 0 n) (units-once s z) (λ u m.
+    (below-member u n (held-below s u m), held-unit s u m)) in
+    let e = ap length (keep-unheld s) in
+    omega arith
 
 pub free-and-held : (s : List ℕ) → Tested s → length (freeUnits s) + length (heldUnits s) ≡ shapeOf s .n - shapeOf s .r
 free-and-held s z =
-    let n = shapeOf s .n in
-    let a = left-exactly (isUnit (shapeOf s)) (below n) (heldUnits s) (distinct-from 0 n) (distinct-held s z) (λ u m.
-    (below-member u n (held-below s u m), held-unit s u m)) in
-    let e = ap length (keep-unheld s) in
+    let a = chunks-units s (tested-chunks z) in
     let k = units-many (shapeOf s) (omega (arith, fitting-limits s (z .fitting) .r-high)) in
     omega arith
 
 -- each mapped chunk names a map of its own
 pub free-and-named : (s : List ℕ) → Tested s → length (freeMaps s) + length (keep (mapped s) (below (shapeOf s .c))) ≡ shapeOf s .m
-unfolding namedBelow
 free-and-named s z =
     let c = shapeOf s .c in
-    let a = unlisted-exactly (shapeOf s .m) (names s) (names-once s (tested-chunks z)) (λ k h.
-    named-maps s c k (λ i l. and-intro (goodLink s i) (goodMap s i) (z .links i l) (z .maps i l)) h) in
+    let a = unlisted-exactly (shapeOf s .m) (names s) (names-once s (tested-chunks z)) (named-maps s (z .links)) in
     let e = ap length (keep-unnamed s (z .fitting)) in
     let n = ap length (joined-kept (namesOf s) (mapped s) (below c) (λ i h. names-absent s i (unmapped-absent s i h))) in
     let most = length-joined (namesOf s) 1 (keep (mapped s) (below c)) (names-few s) in

@@ -1,203 +1,203 @@
--- The end of the one pass: the sets have as many members as there were claims exactly where nothing was claimed twice, and their complements are what is
--- free.
-use Prim.Native.Nat.{ℕ, _+_, _*_, _<_, _≤_}
-use mathlib.Core.Path.{_≡_, refl, ap, sym, _∙_}
+-- The end of the one pass: free and claimed units are N-R in all exactly where no row of 4 to 6 holds, and then the sets hold what is free.
+use Prim.Native.Nat.{ℕ, _+_, _-_, _*_, _<_, _≤_}
+use mathlib.Core.Path.{_≡_, refl, ap, sym, subst, _∙_}
 use mathlib.Core.Bool.{Bool, true, false, not, _&&_, _||_, false≢true}
-use mathlib.Core.List.{List, []}
+use mathlib.Core.List.{List, [], _∷_, _++_}
 use mathlib.Core.Logic.{⊎-elim}
 use native.Mathlib.Omega.{arith}
-use lib.ListN.{length, replicate}
-use lib.Dec.{eqb, ltb, leb}
-use borrow.Author.Tests.{eq-eqb, eqb-true, le-leb}
-use Rattle.search.specs.Search.{from, below, any, keep, member, distinct, disjoint, joined}
+use lib.ListN.{length, getD, drop, replicate}
+use lib.Dec.{eqb, ltb}
+use borrow.Author.Tests.{eq-eqb, eqb-true, ltb-true, ltb-false, lt-ltb, le-ltb}
+use Rattle.search.specs.Search.{below, keep, member, distinct, disjoint, joined}
+use Rattle.search.specs.Sets.{without, withAll}
 use Rattle.search.proofs.Bools.{contradict, either, is-false, is-true, same, and-left, and-right, and-intro, or-cases}
-use Rattle.search.proofs.Members.{member-nil, member-cons, member-head, any-ext}
-use Rattle.search.proofs.Ranges.{any-below, below-member}
-use Rattle.search.proofs.Distinct.{distinct-from, distinct-few, disjoint-intro}
-use Rattle.search.proofs.Joined.{member-joined, distinct-joined}
+use Rattle.search.proofs.Members.{member-nil, member-place, member-getD, member-head, member-tail}
+use Rattle.search.proofs.Ranges.{any-below-intro}
+use Rattle.search.proofs.Kept.{keep-ext}
+use Rattle.search.proofs.Distinct.{distinct-from, disjoint-intro}
+use Rattle.search.proofs.Joined.{member-joined, joined-ext}
 use Rattle.search.proofs.Repeated.{repeated-some, repeated-twice, repeated-in-one, repeated-in-two}
-use Rattle.search.proofs.Counting.{listed-most, distinct-counted}
-use Rattle.bitset.specs.Bits.{bitSet, inSet, membersBelow}
-use Rattle.bitset.proofs.BitSets.{length-bitSet, bitSet-ext, bitSet-none, in-bitSet}
-use Rattle.bitset.proofs.Members.{members-within, in-holds}
-use Rattle.layout.proofs.Limits.{unit-below, unit-unreserved}
+use Rattle.search.proofs.Counting.{left-counted}
+use Rattle.bitset.specs.Bits.{bitSet, inSet, members, wordsFor}
+use Rattle.bitset.proofs.BitSets.{bitSet-ext, set-over}
+use Rattle.bitset.proofs.Others.{inverted-set}
+use Rattle.bitset.proofs.Members.{members-below}
+use Rattle.layout.proofs.Limits.{units-high, maps-few, unit-below}
 use Rattle.layout.specs.declared.Shape.{Shape}
-use Rattle.layout.specs.Layout.{isUnit, shapeOf, linkOf}
+use Rattle.layout.specs.Layout.{X, isUnit, shapeOf, linkOf}
+use Rattle.layout.specs.Shaped.{Limits, Shaped, mapOf, unitWordsOf}
 use Rattle.image.specs.declared.Verdict.{Verdict}
 use Rattle.image.specs.declared.Verdict.the-variants.{Refused, Passed}
-use Rattle.image.specs.Soundness.{mapped, unitsOf}
-use Rattle.image.specs.Verdicts.{goodLink, goodMap, clash, chunkVerdict}
-use Rattle.image.specs.Free.{freeUnit, freeMap}
+use Rattle.image.specs.Soundness.{leading, mapped, unitsOf}
+use Rattle.image.specs.Verdicts.{goodLink, goodMap, clash, chunkVerdict, wellFormed}
+use Rattle.image.specs.Free.{freeUnit, freeMap, freeUnits, heldUnits}
 use Rattle.image.specs.Loading.{unitSetWords, mapSetWords}
-use Rattle.image.specs.Survey.{goodLinkMap, namesOf, heldBelow, namedBelow, claimCountBelow, passed, Surveyed}
-use Rattle.image.proofs.Chunks.{units-are-units, units-below, mapped-named, unmapped-absent, named-below, clash-links, clash-units}
+use Rattle.image.specs.Claims.{heldIn}
+use Rattle.image.specs.Survey.{hasBit, claimedIn, claimsOf, formBy, claimsForm, goodClaims, taken, unitsTaken, mapsTaken, passed, Surveyed}
+use Rattle.image.proofs.Leading.{leading-true, leading-false, leading-at, length-leading}
+use Rattle.image.proofs.Chunks.{map-form, form-by-units, named-map, absent-map, mapped-named, unmapped-absent, units-mapped, units-unmapped, good-some}
 use Rattle.image.proofs.SoundLaws.{ChunksTested, chunks-tested, chunks-passed}
-use Rattle.image.proofs.Surveying.{names-absent, names-named}
+use Rattle.image.proofs.Naming.{names, named-any}
+use Rattle.image.proofs.Surveying.{claims-absent, claims-named, form-absent, form-named}
+use Rattle.image.proofs.Room.{freeUnit-below, freeMap-below, units-many, chunks-units, free-unheld}
 
--- ---- before the first chunk
+-- ---- what is claimed, and what is held
 
-module _ (s : List ℕ) where
-  pub held-none : (units : List ℕ) → units ≡ replicate unitSetWords 0 → units ≡ bitSet (heldBelow s 0) unitSetWords
-  unfolding heldBelow joined from
-  held-none units e = e ∙ bitSet-none unitSetWords ∙ bitSet-ext _ _ unitSetWords (λ y h. sym (member-nil y))
-
-  pub named-none : (maps : List ℕ) → maps ≡ replicate mapSetWords 0 → maps ≡ bitSet (namedBelow s 0) mapSetWords
-  unfolding namedBelow joined from
-  named-none maps e = e ∙ bitSet-none mapSetWords ∙ bitSet-ext _ _ mapSetWords (λ y h. sym (member-nil y))
-
-  pub claims-none : 0 ≡ claimCountBelow s 0
-  unfolding claimCountBelow joined from
-  claims-none = refl
-
--- ---- the map that a chunk names
-
-module _ (s : List ℕ) (i k : ℕ) where
-  name-of : member k (namesOf s i) ≡ true → (mapped s i ≡ true) × (linkOf s i ≡ k)
-  name-of h = ⊎-elim
-      (λ m. (
-        m,
-        ⊎-elim (λ e. sym e) (λ e. contradict e (member-nil k))
-            (member-cons k (linkOf s i) [] (sym (ap (member k) (names-named s i (mapped-named s i m))) ∙ h)),
-      ))
-      (λ m. contradict (sym (ap (member k) (names-absent s i (unmapped-absent s i m))) ∙ h) (member-nil k))
-      (either (mapped s i))
-
-  name-in : mapped s i ≡ true → linkOf s i ≡ k → member k (namesOf s i) ≡ true
-  name-in m e = ap (member k) (names-named s i (mapped-named s i m)) ∙ member-head k (linkOf s i) [] (sym e)
-
-pub names-few : (s : List ℕ) (i : ℕ) → length (namesOf s i) ≤ 1
-names-few s i = ⊎-elim (λ m. omega (arith, ap length (names-named s i (mapped-named s i m))))
-    (λ m. omega (arith, ap length (names-absent s i (unmapped-absent s i m))))
-    (either (mapped s i))
-
--- ---- only units and maps of the volume are in the sets
-
-held-units : (s : List ℕ) (j u : ℕ) → heldBelow s j u ≡ true → isUnit (shapeOf s) u ≡ true
-unfolding heldBelow
-held-units s j u m =
-    let r = any-below (λ i. member u (unitsOf s i)) j (sym (member-joined (unitsOf s) u (below j)) ∙ m) in
-    units-are-units s u (r .0) (r .2)
-
-pub named-maps : (s : List ℕ) (j k : ℕ) → ((i : ℕ) → i < j → goodLinkMap s i ≡ true) → namedBelow s j k ≡ true → k < shapeOf s .m
-unfolding namedBelow
-named-maps s j k good m =
-    let r = any-below (λ i. member k (namesOf s i)) j (sym (member-joined (namesOf s) k (below j)) ∙ m) in
-    let i = r .0 in
-    let q = name-of s i k (r .2) in
-    let b = named-below s i (mapped-named s i (q .0)) (and-left (goodLink s i) (goodMap s i) (good i (r .1))) in
-    omega (arith, q .1)
-
--- the same of the words
-pub unit-between : (s : List ℕ) (g : Shape) → g ≡ shapeOf s → (us : List ℕ) (j : ℕ) → us ≡ bitSet (heldBelow s j) unitSetWords
-    → (u : ℕ) → inSet us u ≡ true → (g .r ≤ u) × (u < g .n)
-unit-between s g e us j eu u h =
-    let m = held-units s j u (in-holds (heldBelow s j) unitSetWords u (sym (ap (λ (ws : List ℕ). inSet ws u) eu) ∙ h)) in
-    (omega (arith, ap (λ (q : Shape). q .r) e, unit-unreserved (shapeOf s) u m), omega (arith, ap (λ (q : Shape). q .n) e, unit-below (shapeOf s) u m))
-
-pub map-below : (s ms : List ℕ) (j : ℕ) → ms ≡ bitSet (namedBelow s j) mapSetWords → ((i : ℕ) → i < j → goodLinkMap s i ≡ true)
-    → (k : ℕ) → inSet ms k ≡ true → k < shapeOf s .m
-map-below s ms j em good k h =
-    named-maps s j k good (in-holds (namedBelow s j) mapSetWords k (sym (ap (λ (ws : List ℕ). inSet ws k) em) ∙ h))
-
--- ---- nothing is claimed twice exactly where no two chunks clash and none has a unit twice
+-- a test that holds of every word that leads by a wider one leads as far
+leading-same : (f t : ℕ → Bool) → ((u : ℕ) → f u ≡ true → t u ≡ true) → (ws : List ℕ)
+    → ((u : ℕ) → member u (leading t ws) ≡ true → f u ≡ true) → leading f ws ≡ leading t ws
+unfolding leading
+leading-same f t wide [] h = refl
+leading-same f t wide (w ∷ ws) h = ⊎-elim
+    (λ p. let e = leading-true t w ws p in
+    let here = h w (ap (member w) e ∙ member-head w w (leading t ws) refl) in
+    leading-true f w ws here
+    ∙ ap (λ (l : List ℕ). w ∷ l) (leading-same f t wide ws (λ u m. h u (ap (member u) e ∙ member-tail u w (leading t ws) m))) ∙ sym e)
+    (λ p. leading-false f w ws (is-false (f w) (λ q. contradict (wide w q) p)) ∙ sym (leading-false t w ws p))
+    (either (t w))
 
 module _ (s : List ℕ) where
-  -- what all chunks hold and name
-  abbrev held : List ℕ
-  held = joined (unitsOf s) (below (shapeOf s .c))
+  unit-has-bit : (u : ℕ) → isUnit (shapeOf s) u ≡ true → hasBit (shapeOf s) u ≡ true
+  unfolding hasBit
+  unit-has-bit u e = let l = unit-below (shapeOf s) u e in lt-ltb u (64 * wordsFor (shapeOf s .n)) (omega arith)
 
-  abbrev pub names : List ℕ
-  names = joined (namesOf s) (below (shapeOf s .c))
+  absent-no-bit : Limits (shapeOf s) → hasBit (shapeOf s) X ≡ false
+  unfolding hasBit
+  absent-no-bit l = let n = units-high (shapeOf s) l in le-ltb X (64 * wordsFor (shapeOf s .n)) (omega arith)
 
-  pub units-once : ChunksTested s → distinct held ≡ true
-  units-once z = distinct-joined (unitsOf s) 0 (shapeOf s .c) (λ j h. z .single j (omega arith)) (λ j k h l. clash-units s j k (z .apart j k h (omega arith)))
+  module _ (i : ℕ) where
+    claims-mapped : mapped s i ≡ true → claimsOf s i ≡ claimedIn s (linkOf s i)
+    claims-mapped m = claims-named s i (mapped-named s i m)
 
-  pub names-once : ChunksTested s → distinct names ≡ true
-  names-once z = distinct-joined (namesOf s) 0 (shapeOf s .c) (λ j h. distinct-few (namesOf s j) (names-few s j)) (λ j k h l.
-      disjoint-intro (namesOf s j) (namesOf s k) (λ x a. is-false (member x (namesOf s k)) (λ b.
-      let p = name-of s j x a in
-      let q = name-of s k x b in
-      absurd (clash-links s j k (z .apart j k h (omega arith)) (p .0) (q .0) (p .1 ∙ sym (q .1))))))
+    claims-unmapped : mapped s i ≡ false → claimsOf s i ≡ []
+    claims-unmapped m = claims-absent s i (unmapped-absent s i m)
 
-  module _ (d : distinct held ≡ true) (t : distinct names ≡ true) where
-    once : (i : ℕ) → i < shapeOf s .c → distinct (unitsOf s i) ≡ true
-    once i h = is-true (distinct (unitsOf s i)) (λ e.
-        let r = repeated-some (unitsOf s i) e in
-        contradict d (repeated-twice (r .0) held (repeated-in-one (unitsOf s) (r .0) (shapeOf s .c) i h (r .1))))
+    -- a chunk that claims units alone holds what it claims, and the form of its map is that of row 5
+    module _ (only : (u : ℕ) → member u (claimsOf s i) ≡ true → isUnit (shapeOf s) u ≡ true) where
+      leads : mapped s i ≡ true → leading (isUnit (shapeOf s)) (unitWordsOf s (linkOf s i)) ≡ claimedIn s (linkOf s i)
+      leads m = leading-same (isUnit (shapeOf s)) (hasBit (shapeOf s)) unit-has-bit (unitWordsOf s (linkOf s i)) (λ u h.
+          only u (ap (member u) (claims-mapped m) ∙ h))
 
-    no-unit : (i j : ℕ) → i < j → j < shapeOf s .c → disjoint (unitsOf s i) (unitsOf s j) ≡ true
-    no-unit i j h l = disjoint-intro (unitsOf s i) (unitsOf s j) (λ u m. is-false (member u (unitsOf s j)) (λ k.
-        contradict d (repeated-twice u held (repeated-in-two (unitsOf s) u (shapeOf s .c) i j h l m k))))
+      holds-claims : unitsOf s i ≡ claimsOf s i
+      holds-claims = ⊎-elim (λ m. units-mapped s i m ∙ leads m ∙ sym (claims-mapped m))
+          (λ m. units-unmapped s i m ∙ sym (claims-unmapped m)) (either (mapped s i))
 
-    no-map : (i j : ℕ) → i < j → j < shapeOf s .c → mapped s i ≡ true → mapped s j ≡ true → eqb (linkOf s i) (linkOf s j) ≡ false
-    no-map i j h l a b = is-false (eqb (linkOf s i) (linkOf s j)) (λ e.
-        let k = linkOf s j in
-        contradict t (repeated-twice k names
-        (repeated-in-two (namesOf s) k (shapeOf s .c) i j h l (name-in s i k a (eqb-true (linkOf s i) k e)) (name-in s j k b refl))))
+      form-same : mapped s i ≡ true → formBy (isUnit (shapeOf s)) (shapeOf s) (mapOf s (linkOf s i)) ≡ formBy (hasBit (shapeOf s)) (shapeOf s) (mapOf s (linkOf s i))
+      unfolding formBy wellFormed
+      form-same m = rw (leads m)
 
-    no-clash : (i j : ℕ) → i < j → j < shapeOf s .c → clash s i j ≡ false
+      good-same : goodMap s i ≡ claimsForm s i
+      good-same = ⊎-elim
+          (λ m. let n = mapped-named s i m in
+          named-map s i n ∙ form-by-units (shapeOf s) (mapOf s (linkOf s i)) ∙ form-same m ∙ sym (form-named s i n))
+          (λ m. let x = unmapped-absent s i m in absent-map s i x ∙ sym (form-absent s i x)) (either (mapped s i))
+
+    -- and so does one whose map has the form of row 5: past its units it has X alone, which has no bit
+    claims-units : Limits (shapeOf s) → goodMap s i ≡ true → (u : ℕ) → member u (claimsOf s i) ≡ true → isUnit (shapeOf s) u ≡ true
+    claims-units lim good u h = ⊎-elim
+        (λ m.
+        let ws = unitWordsOf s (linkOf s i) in
+        let o = map-form (shapeOf s) (mapOf s (linkOf s i)) (sym (named-map s i (mapped-named s i m)) ∙ good) .units in
+        let k = length (leading (isUnit (shapeOf s)) ws) in
+        let r = member-place u (claimedIn s (linkOf s i)) (sym (ap (member u) (claims-mapped m)) ∙ h) in
+        let a = leading-at (hasBit (shapeOf s)) ws (r .0) (r .1) in
+        let e : getD ws (r .0) 0 ≡ u = sym (a .0) ∙ r .2 in
+        ⊎-elim (λ q. ap (isUnit (shapeOf s)) (sym e) ∙ o .units (r .0) (ltb-true (r .0) k q))
+        (λ q. contradict (a .1) (ap (hasBit (shapeOf s)) (o .rest (r .0) (ltb-false (r .0) k q) (omega (arith, r .1, length-leading (hasBit (shapeOf s)) ws))) ∙ absent-no-bit lim))
+        (either (ltb (r .0) k)))
+        (λ m. contradict (sym (ap (member u) (claims-unmapped m)) ∙ h) (member-nil u))
+        (either (mapped s i))
+
+-- ---- nothing is held twice exactly where no two chunks clash and none has a unit twice
+
+module _ (s : List ℕ) (d : distinct (heldUnits s) ≡ true) (maps : (i : ℕ) → i < shapeOf s .c → goodMap s i ≡ true) where
+  once : (i : ℕ) → i < shapeOf s .c → distinct (unitsOf s i) ≡ true
+  unfolding heldUnits
+  once i h = is-true (distinct (unitsOf s i)) (λ e.
+      let r = repeated-some (unitsOf s i) e in
+      contradict d (repeated-twice (r .0) (heldUnits s) (repeated-in-one (unitsOf s) (r .0) (shapeOf s .c) i h (r .1))))
+
+  module _ (i j : ℕ) (h : i < j) (l : j < shapeOf s .c) where
+    one-holder : (u : ℕ) → member u (unitsOf s i) ≡ true → member u (unitsOf s j) ≡ false
+    unfolding heldUnits
+    one-holder u m = is-false (member u (unitsOf s j)) (λ k.
+        contradict d (repeated-twice u (heldUnits s) (repeated-in-two (unitsOf s) u (shapeOf s .c) i j h l m k)))
+
+    -- who names another's map holds its units, of which there is one at least
+    other-map : mapped s i ≡ true → mapped s j ≡ true → eqb (linkOf s i) (linkOf s j) ≡ false
+    other-map a b = is-false (eqb (linkOf s i) (linkOf s j)) (λ e.
+        let u = getD (unitsOf s i) 0 0 in
+        let m = member-getD (unitsOf s i) 0 (good-some s i a (maps i (omega arith))) in
+        let q : unitsOf s i ≡ unitsOf s j =
+        units-mapped s i a ∙ ap (heldIn s) (eqb-true (linkOf s i) (linkOf s j) e) ∙ sym (units-mapped s j b) in
+        contradict (sym (ap (member u) q) ∙ m) (one-holder u m))
+
+    no-clash : clash s i j ≡ false
     unfolding clash
-    no-clash i j h l = is-false _ (λ e.
+    no-clash = is-false _ (λ e.
         let both = mapped s i && mapped s j in
-        let rest = eqb (linkOf s i) (linkOf s j) || not (disjoint (unitsOf s i) (unitsOf s j)) in
+        let apart = disjoint (unitsOf s i) (unitsOf s j) in
+        let rest = eqb (linkOf s i) (linkOf s j) || not apart in
         let m = and-left both rest e in
-        ⊎-elim (λ q. contradict q (no-map i j h l (and-left (mapped s i) (mapped s j) m) (and-right (mapped s i) (mapped s j) m)))
-        (λ q. contradict q (ap not (no-unit i j h l)))
-        (or-cases (eqb (linkOf s i) (linkOf s j)) (not (disjoint (unitsOf s i) (unitsOf s j))) (and-right both rest e)))
+        ⊎-elim (λ q. contradict q (other-map (and-left (mapped s i) (mapped s j) m) (and-right (mapped s i) (mapped s j) m)))
+        (λ q. contradict q (ap not (disjoint-intro (unitsOf s i) (unitsOf s j) one-holder)))
+        (or-cases (eqb (linkOf s i) (linkOf s j)) (not apart) (and-right both rest e)))
 
-    all-tested : ((i : ℕ) → i < shapeOf s .c → goodLinkMap s i ≡ true) → ChunksTested s
-    all-tested good =
+-- ---- free and claimed units are N-R in all exactly where no row holds
+
+-- what all chunks claim
+abbrev claimed : List ℕ → List ℕ
+claimed s = joined (claimsOf s) (below (shapeOf s .c))
+
+module _ (s : List ℕ) (lim : Limits (shapeOf s)) where
+  held-claimed : ((i : ℕ) → i < shapeOf s .c → unitsOf s i ≡ claimsOf s i) → heldUnits s ≡ claimed s
+  unfolding heldUnits
+  held-claimed h = joined-ext (unitsOf s) (claimsOf s) (shapeOf s .c) h
+
+  many : length (keep (isUnit (shapeOf s)) (below (shapeOf s .n))) ≡ shapeOf s .n - shapeOf s .r
+  many = units-many (shapeOf s) (omega (arith, lim .r-high))
+
+  module _ (z : ChunksTested s) where
+    passed-holds : (i : ℕ) → i < shapeOf s .c → unitsOf s i ≡ claimsOf s i
+    passed-holds i h = holds-claims s i (claims-units s i lim (z .maps i h))
+
+    pub passed-claims : (i : ℕ) → i < shapeOf s .c → goodClaims s i ≡ true
+    passed-claims i h =
+        and-intro (goodLink s i) (claimsForm s i) (z .links i h) (sym (good-same s i (claims-units s i lim (z .maps i h))) ∙ z .maps i h)
+
+    passed-free : keep (without (isUnit (shapeOf s)) (claimed s)) (below (shapeOf s .n)) ≡ freeUnits s
+    unfolding freeUnits
+    passed-free = keep-ext _ (freeUnit s) (below (shapeOf s .n)) (λ u m.
+        ap (λ (l : List ℕ). without (isUnit (shapeOf s)) l u) (sym (held-claimed passed-holds)) ∙ free-unheld s u)
+
+    passed-counted : length (claimed s) + length (keep (without (isUnit (shapeOf s)) (claimed s)) (below (shapeOf s .n))) ≡ shapeOf s .n - shapeOf s .r
+    passed-counted =
+        omega (arith, many, chunks-units s z, ap length passed-free, ap length (held-claimed passed-holds))
+
+  module _ (good : (i : ℕ) → i < shapeOf s .c → goodClaims s i ≡ true)
+      (e : length (claimed s) + length (keep (without (isUnit (shapeOf s)) (claimed s)) (below (shapeOf s .n))) ≡ shapeOf s .n - shapeOf s .r) where
+    counted : (distinct (claimed s) ≡ true) × ((u : ℕ) → member u (claimed s) ≡ true → (member u (below (shapeOf s .n)) ≡ true) × (isUnit (shapeOf s) u ≡ true))
+    counted = left-counted (isUnit (shapeOf s)) (below (shapeOf s .n)) (claimed s) (distinct-from 0 (shapeOf s .n)) (omega (arith, many))
+
+    only-units : (i : ℕ) → i < shapeOf s .c → (u : ℕ) → member u (claimsOf s i) ≡ true → isUnit (shapeOf s) u ≡ true
+    only-units i h u m =
+        counted .1 u (member-joined (claimsOf s) u (below (shapeOf s .c)) ∙ any-below-intro (λ j. member u (claimsOf s j)) (shapeOf s .c) i h m) .1
+
+    counted-maps : (i : ℕ) → i < shapeOf s .c → goodMap s i ≡ true
+    counted-maps i h = good-same s i (only-units i h) ∙ and-right (goodLink s i) (claimsForm s i) (good i h)
+
+    counted-held : heldUnits s ≡ claimed s
+    counted-held = held-claimed (λ i h. holds-claims s i (only-units i h))
+
+    counted-tested : ChunksTested s
+    counted-tested =
+        let d : distinct (heldUnits s) ≡ true = ap distinct counted-held ∙ counted .0 in
         record {
-          links = λ i h. and-left (goodLink s i) (goodMap s i) (good i h);
-          maps = λ i h. and-right (goodLink s i) (goodMap s i) (good i h);
-          apart = no-clash;
-          single = once;
+          links = λ i h. and-left (goodLink s i) (claimsForm s i) (good i h);
+          maps = counted-maps;
+          apart = no-clash s d counted-maps;
+          single = once s d counted-maps;
         }
-
--- ---- so many members as claims
-
-module _ (s : List ℕ) (good : (i : ℕ) → i < shapeOf s .c → goodLinkMap s i ≡ true)
-    (h : ℕ) (eh : h ≡ length (keep (heldBelow s (shapeOf s .c)) (below (shapeOf s .n))))
-    (k : ℕ) (ek : k ≡ length (keep (namedBelow s (shapeOf s .c)) (below (shapeOf s .m)))) where
-  all-units : (u : ℕ) → member u (held s) ≡ true → member u (below (shapeOf s .n)) ≡ true
-  all-units u m =
-      let r = any-below (λ i. member u (unitsOf s i)) (shapeOf s .c) (sym (member-joined (unitsOf s) u (below (shapeOf s .c))) ∙ m) in
-      below-member u (shapeOf s .n) (units-below s u (r .0) (r .2))
-
-  all-names : (u : ℕ) → member u (names s) ≡ true → member u (below (shapeOf s .m)) ≡ true
-  unfolding namedBelow
-  all-names u m = below-member u (shapeOf s .m) (named-maps s (shapeOf s .c) u good m)
-
-  units-counted : distinct (held s) ≡ eqb h (length (held s))
-  unfolding heldBelow
-  units-counted = rw eh (distinct-counted (below (shapeOf s .n)) (distinct-from 0 (shapeOf s .n)) (held s) all-units)
-
-  names-counted : distinct (names s) ≡ eqb k (length (names s))
-  unfolding namedBelow
-  names-counted = rw ek (distinct-counted (below (shapeOf s .m)) (distinct-from 0 (shapeOf s .m)) (names s) all-names)
-
-  units-most : h ≤ length (held s)
-  unfolding heldBelow
-  units-most = omega (arith, listed-most (below (shapeOf s .n)) (distinct-from 0 (shapeOf s .n)) (held s))
-
-  names-most : k ≤ length (names s)
-  unfolding namedBelow
-  names-most = omega (arith, listed-most (below (shapeOf s .m)) (distinct-from 0 (shapeOf s .m)) (names s))
-
-  counted-passed : claimCountBelow s (shapeOf s .c) ≡ h + k → chunkVerdict s ≡ Passed
-  unfolding claimCountBelow
-  counted-passed e =
-      let d : distinct (held s) ≡ true = units-counted ∙ eq-eqb h (length (held s)) (omega (arith, units-most, names-most)) in
-      let t : distinct (names s) ≡ true = names-counted ∙ eq-eqb k (length (names s)) (omega (arith, units-most, names-most)) in
-      chunks-passed s (all-tested s d t good)
-
-  passed-counted : chunkVerdict s ≡ Passed → claimCountBelow s (shapeOf s .c) ≡ h + k
-  unfolding claimCountBelow
-  passed-counted p =
-      let z = chunks-tested s p in
-      let d = eqb-true h (length (held s)) (sym units-counted ∙ units-once s z) in
-      let t = eqb-true k (length (names s)) (sym names-counted ∙ names-once s z) in
-      omega arith
 
 -- ---- what `survey` owes at its returns
 
@@ -209,81 +209,99 @@ pub passed-yes : (v : Verdict) → passed v ≡ true → v ≡ Passed
 passed-yes Passed e = refl
 passed-yes (Refused r) e = absurd (false≢true e)
 
--- a refusal holds: nothing is said of the sets
-pub survey-no : (s us ms : List ℕ) → (chunkVerdict s ≡ Passed → ⊥) → Surveyed s false us ms
-survey-no s us ms n =
-    record { right = passed-no (chunkVerdict s) n; units-left = λ z. absurd (false≢true z); maps-left = λ z. absurd (false≢true z) }
+limits-said : (s : List ℕ) (g : Shape) → Shaped s g → Limits (shapeOf s)
+limits-said s g h = subst Limits (h .same) (h .limits)
 
--- row 4 or 5 holds of a chunk
-pub bad-refused : (s : List ℕ) (i : ℕ) → i < shapeOf s .c → goodLinkMap s i ≡ false → chunkVerdict s ≡ Passed → ⊥
-bad-refused s i h b p =
-    let z = chunks-tested s p in
-    contradict (and-intro (goodLink s i) (goodMap s i) (z .links i h) (z .maps i h)) b
+-- a chunk is not good: a refusal holds, and nothing is said of the sets
+pub survey-bad : (s : List ℕ) (g : Shape) → Shaped s g → (n m : ℕ) (us ms : List ℕ) (i : ℕ) → i < g .c → goodClaims s i ≡ false
+    → Surveyed s false n m us ms
+survey-bad s g h n m us ms i l b =
+    let c = ap (λ (q : Shape). q .c) (h .same) in
+    record {
+      right = passed-no (chunkVerdict s) (λ p. contradict (passed-claims s (limits-said s g h) (chunks-tested s p) i (omega arith)) b);
+      units-left = λ z. absurd (false≢true z);
+      maps-left = λ z. absurd (false≢true z);
+    }
 
--- the numbers from `low` on and below `high` that are not in a set
-abbrev pub free : (ℕ → Bool) → ℕ → ℕ → ℕ → Bool
-free f low high u = (leb low u && ltb u high) && not (f u)
+-- what is left of a set once the numbers that are not free are out of it
+left-cell : (a b : Bool) → not (not a || b) ≡ (a && not b)
+left-cell true b = refl
+left-cell false b = refl
 
-module _ (s : List ℕ) where
-  free-unit : (y : ℕ) → y < 64 * unitSetWords
-      → free (inSet (bitSet (heldBelow s (shapeOf s .c)) unitSetWords)) (shapeOf s .r) (shapeOf s .n) y ≡ freeUnit s y
-  unfolding freeUnit isUnit heldBelow
-  free-unit y h =
-      let f : ℕ → Bool = λ u. member u (held s) in
-      rw (in-bitSet f unitSetWords y h, member-joined (unitsOf s) y (below (shapeOf s .c)))
+left-set : (f : ℕ → Bool) (xs : List ℕ) (n : ℕ) (set after : List ℕ) → set ≡ bitSet (taken f xs) n
+    → after ≡ bitSet (λ u. not (inSet set u)) (length set) → after ≡ bitSet (without f xs) n
+unfolding withAll without
+left-set f xs n set after e a =
+    a ∙ ap (λ (l : List ℕ). bitSet (λ u. not (inSet l u)) (length l)) e ∙ inverted-set (taken f xs) n
+    ∙ bitSet-ext _ _ n (λ y h. left-cell (f y) (member y xs))
 
-  name-test : (y : ℕ) → y < 64 * mapSetWords → (i : ℕ) → member y (namesOf s i) ≡ eqb (linkOf s i) y
-  name-test y h i = same (member y (namesOf s i)) (eqb (linkOf s i) y)
-      (λ p. eq-eqb (linkOf s i) y (name-of s i y p .1))
-      (λ p. let e = eqb-true (linkOf s i) y p in
-      name-in s i y (is-true (mapped s i) (λ z. let w = unmapped-absent s i z in absurd (omega arith))) e)
+-- all chunks are good: the sets as they were then, what they were turned into, and how many members the units' set has
+module _ (s : List ℕ) (lim : Limits (shapeOf s)) (good : (i : ℕ) → i < shapeOf s .c → goodClaims s i ≡ true)
+    (us ms after rest : List ℕ)
+    (eu : us ≡ bitSet (unitsTaken s (shapeOf s .c)) (wordsFor (shapeOf s .n))) (au : after ≡ bitSet (λ u. not (inSet us u)) (length us))
+    (em : ms ≡ bitSet (mapsTaken s (shapeOf s .c)) (wordsFor (shapeOf s .m))) (am : rest ≡ bitSet (λ u. not (inSet ms u)) (length ms))
+    (held free : ℕ) (eh : held ≡ length (claimed s)) (ef : free ≡ length (members after)) where
+  abbrev left : ℕ → Bool
+  left = without (isUnit (shapeOf s)) (claimed s)
 
-  -- a map is named where an entry says its number
-  pub named-any : (y : ℕ) → y < 64 * mapSetWords → member y (names s) ≡ any (λ i. eqb (linkOf s i) y) (below (shapeOf s .c))
-  named-any y h =
-      member-joined (namesOf s) y (below (shapeOf s .c))
-      ∙ any-ext (λ i. member y (namesOf s i)) (λ i. eqb (linkOf s i) y) (name-test y h) (below (shapeOf s .c))
+  units-are : after ≡ bitSet left (wordsFor (shapeOf s .n))
+  units-are = left-set (isUnit (shapeOf s)) (claimed s) (wordsFor (shapeOf s .n)) us after eu au
 
-  free-map : (y : ℕ) → y < 64 * mapSetWords
-      → free (inSet (bitSet (namedBelow s (shapeOf s .c)) mapSetWords)) 0 (shapeOf s .m) y ≡ freeMap s y
-  unfolding freeMap namedBelow
-  free-map y h =
-      let f : ℕ → Bool = λ u. member u (names s) in
-      rw (in-bitSet f mapSetWords y h, named-any y h, le-leb 0 y (omega arith))
+  left-high : (u : ℕ) → shapeOf s .n ≤ u → left u ≡ false
+  unfolding without
+  left-high u h = is-false _ (λ e.
+      let b = unit-below (shapeOf s) u (and-left (isUnit (shapeOf s) u) (not (member u (claimed s))) e) in absurd (omega arith))
 
--- all chunks were gone through: the sets as they were then, so many words of them counted, and what they were turned into
-module _ (s : List ℕ) (g : Shape) (e : g ≡ shapeOf s) (j : ℕ) (whole : j ≡ g .c) (good : (i : ℕ) → i < j → goodLinkMap s i ≡ true)
-    (us ms : List ℕ) (eu : us ≡ bitSet (heldBelow s j) unitSetWords) (em : ms ≡ bitSet (namedBelow s j) mapSetWords)
-    (h ends : ℕ) (n-high : g .n ≤ 64 * ends) (u-high : ends ≤ unitSetWords) (eh : h ≡ length (membersBelow us (64 * ends)))
-    (k endm : ℕ) (m-high : g .m ≤ 64 * endm) (w-high : endm ≤ mapSetWords) (ek : k ≡ length (membersBelow ms (64 * endm)))
-    (claims : ℕ) (total : claims ≡ claimCountBelow s j) where
-  all-chunks : j ≡ shapeOf s .c
-  all-chunks = whole ∙ ap (λ (q : Shape). q .c) e
+  free-count : free ≡ length (keep left (below (shapeOf s .n)))
+  free-count = ef ∙ ap length (ap members units-are ∙ members-below left (shapeOf s .n) (wordsFor (shapeOf s .n)) left-high (omega arith))
 
-  all-good : (i : ℕ) → i < shapeOf s .c → goodLinkMap s i ≡ true
-  all-good i l = good i (omega (arith, all-chunks))
+  module _ (e : held + free ≡ shapeOf s .n - shapeOf s .r) where
+    all-claimed : length (claimed s) + length (keep left (below (shapeOf s .n))) ≡ shapeOf s .n - shapeOf s .r
+    all-claimed = omega (arith, eh, free-count)
 
-  in-units : h ≡ length (keep (heldBelow s (shapeOf s .c)) (below (shapeOf s .n)))
-  in-units = rw (eh, eu, all-chunks) (ap length (members-within (heldBelow s (shapeOf s .c)) unitSetWords ends (shapeOf s .n) u-high
-      (omega (arith, ap (λ (q : Shape). q .n) e)) (λ u m. unit-below (shapeOf s) u (held-units s (shapeOf s .c) u m))))
+    free-units : after ≡ bitSet (freeUnit s) (wordsFor (shapeOf s .n))
+    free-units = units-are ∙ bitSet-ext left (freeUnit s) (wordsFor (shapeOf s .n)) (λ y h.
+        ap (λ (l : List ℕ). without (isUnit (shapeOf s)) l y) (sym (counted-held s lim good all-claimed)) ∙ free-unheld s y)
 
-  in-names : k ≡ length (keep (namedBelow s (shapeOf s .c)) (below (shapeOf s .m)))
-  in-names = rw (ek, em, all-chunks) (ap length (members-within (namedBelow s (shapeOf s .c)) mapSetWords endm (shapeOf s .m) w-high
-      (omega (arith, ap (λ (q : Shape). q .m) e)) (λ u m. named-maps s (shapeOf s .c) u all-good m)))
+    free-maps : rest ≡ bitSet (freeMap s) (wordsFor (shapeOf s .m))
+    unfolding freeMap without
+    free-maps =
+        left-set (λ k. ltb k (shapeOf s .m)) (names s) (wordsFor (shapeOf s .m)) ms rest em am
+        ∙ bitSet-ext _ _ (wordsFor (shapeOf s .m)) (λ y h. rw (named-any s y (omega (arith, maps-few (shapeOf s) lim))))
 
-  pub survey-twice : (after rest : List ℕ) → (claims ≡ h + k → ⊥) → Surveyed s false after rest
-  survey-twice after rest n = survey-no s after rest (λ p.
-      n (total ∙ ap (claimCountBelow s) all-chunks ∙ passed-counted s all-good h in-units k in-names p))
+  counted-right : eqb (held + free) (shapeOf s .n - shapeOf s .r) ≡ passed (chunkVerdict s)
+  counted-right = same (eqb (held + free) (shapeOf s .n - shapeOf s .r)) (passed (chunkVerdict s))
+      (λ t. rw (chunks-passed s (counted-tested s lim good (all-claimed (eqb-true _ _ t)))))
+      (λ t. eq-eqb (held + free) (shapeOf s .n - shapeOf s .r) (omega (arith, eh, free-count, passed-counted s lim (chunks-tested s (passed-yes (chunkVerdict s) t)))))
 
-  pub survey-yes : (after rest : List ℕ) → claims ≡ h + k
-      → after ≡ bitSet (free (inSet us) (g .r) (g .n)) (length us) → rest ≡ bitSet (free (inSet ms) 0 (g .m)) (length ms)
-      → Surveyed s true after rest
-  survey-yes after rest t au am =
-      let p = counted-passed s all-good h in-units k in-names (ap (claimCountBelow s) (sym all-chunks) ∙ sym total ∙ t) in
-      let zu = ap length eu ∙ length-bitSet (heldBelow s j) unitSetWords in
-      let zm = ap length em ∙ length-bitSet (namedBelow s j) mapSetWords in
-      record {
-        right = rw p;
-        units-left = λ z. au ∙ rw (zu, eu, all-chunks, e) (bitSet-ext _ _ unitSetWords (free-unit s));
-        maps-left = λ z. am ∙ rw (zm, em, all-chunks, e) (bitSet-ext _ _ mapSetWords (free-map s));
-      }
+  survey-told : Surveyed s (eqb (held + free) (shapeOf s .n - shapeOf s .r)) (wordsFor (shapeOf s .n)) (wordsFor (shapeOf s .m)) after rest
+  survey-told = record { right = counted-right; units-left = λ t. free-units (eqb-true _ _ t); maps-left = λ t. free-maps (eqb-true _ _ t) }
+
+-- the same where the code has the shape as g, and went through j chunks
+pub survey-done : (s : List ℕ) (g : Shape) → Shaped s g → (j : ℕ) → j ≡ g .c → ((i : ℕ) → i < j → goodClaims s i ≡ true) → (us ms after rest : List ℕ)
+    → us ≡ bitSet (unitsTaken s j) (wordsFor (shapeOf s .n)) → after ≡ bitSet (λ u. not (inSet us u)) (length us)
+    → ms ≡ bitSet (mapsTaken s j) (wordsFor (shapeOf s .m)) → rest ≡ bitSet (λ u. not (inSet ms u)) (length ms)
+    → (held free : ℕ) → held ≡ length (joined (claimsOf s) (below j)) → free ≡ length (members after)
+    → Surveyed s (eqb (held + free) (g .n - g .r)) (wordsFor (g .n)) (wordsFor (g .m)) after rest
+survey-done s g h j whole good us ms after rest eu au em am held free eh ef =
+    let c : j ≡ shapeOf s .c = whole ∙ ap (λ (q : Shape). q .c) (h .same) in
+    subst (λ (q : Shape). Surveyed s (eqb (held + free) (q .n - q .r)) (wordsFor (q .n)) (wordsFor (q .m)) after rest) (sym (h .same))
+    (survey-told s (limits-said s g h) (λ i l. good i (omega arith)) us ms after rest
+    (eu ∙ ap (λ (i : ℕ). bitSet (unitsTaken s i) (wordsFor (shapeOf s .n))) c) au
+    (em ∙ ap (λ (i : ℕ). bitSet (mapsTaken s i) (wordsFor (shapeOf s .m))) c) am
+    held free (eh ∙ ap (λ (i : ℕ). length (joined (claimsOf s) (below i))) c) ef)
+
+-- where the sets are the first words of empty ones: n and m of them
+pub survey-over : (s : List ℕ) (g : Shape) → Shaped s g → (n m : ℕ) → n ≡ wordsFor (g .n) → m ≡ wordsFor (g .m) → (ok : Bool) (us ms : List ℕ)
+    → Surveyed s ok (wordsFor (g .n)) (wordsFor (g .m)) us ms → (units maps : List ℕ) → units ≡ replicate unitSetWords 0 → maps ≡ replicate mapSetWords 0
+    → Surveyed s ok unitSetWords mapSetWords (us ++ drop n units) (ms ++ drop m maps)
+survey-over s g h n m en em ok us ms v units maps eu es =
+    let size = ap (λ (q : Shape). q .n) (h .same) in
+    let count = ap (λ (q : Shape). q .m) (h .same) in
+    record {
+      right = v .right;
+      units-left = λ t. set-over (freeUnit s) n unitSetWords us units (omega (arith, units-high g (h .limits))) eu (v .units-left t ∙ ap (bitSet (freeUnit s)) (sym en))
+          (λ u l. is-false (freeUnit s u) (λ e. let b = freeUnit-below s u e in absurd (omega arith)));
+      maps-left = λ t. set-over (freeMap s) m mapSetWords ms maps (omega (arith, maps-few g (h .limits))) es (v .maps-left t ∙ ap (bitSet (freeMap s)) (sym em))
+          (λ k l. is-false (freeMap s k) (λ e. let b = freeMap-below s k e in absurd (omega arith)));
+    }

@@ -1,137 +1,199 @@
--- Laws of the one pass over the chunks: the units of a map put in, and what one chunk more claims.
-use Prim.Native.Nat.{ℕ, _+_, _<_, _≤_}
-use mathlib.Core.Path.{_≡_, ap, sym, _∙_}
-use mathlib.Core.Bool.{Bool, true, false, _&&_, _||_, or-false, cond}
+-- Laws of the one pass over the chunks: the words of a map put in, and what one chunk more claims.
+use Prim.Native.Nat.{ℕ, _+_, _*_, _<_, _≤_}
+use mathlib.Core.Path.{_≡_, refl, ap, sym, subst, _∙_}
+use mathlib.Core.Bool.{Bool, true, false, not, _&&_, _||_, or-false, or-assoc, cond}
 use mathlib.Core.List.{List, [], _∷_}
 use mathlib.Core.Logic.{⊎-elim}
 use native.Mathlib.Omega.{arith}
 use native.Mathlib.Numerals.{add-one}
 use lib.ListN.{length, getD, take, drop, length-append}
-use lib.Dec.{eqb}
-use borrow.Author.Tests.{eq-eqb, ne-eqb, lt-ltb, le-ltb}
-use Rattle.search.specs.Search.{below, all, any, member, joined}
+use lib.Dec.{eqb, ltb, leb}
+use borrow.Author.Tests.{eq-eqb, ne-eqb, lt-ltb, le-ltb, ltb-false, le-leb}
+use Rattle.search.specs.Search.{from, below, all, any, member, joined}
 use Rattle.search.specs.Sets.{put, withAll}
-use Rattle.search.proofs.Taken.{put-in, withAll-none, withAll-more}
-use Rattle.search.proofs.Bools.{contradict, either, is-false, is-true, and-right, and-intro, and-false-left, and-false-right, cond-true, cond-false}
+use Rattle.search.proofs.Taken.{put-in, put-other, withAll-none, withAll-more}
+use Rattle.search.proofs.Bools.{contradict, either, is-false, is-true, and-intro, and-false-left, and-false-right, cond-true, cond-false}
 use Rattle.search.proofs.Members.{member-append}
 use Rattle.search.proofs.Joined.{joined-last}
-use Rattle.bitset.specs.Bits.{bitSet, inserted}
-use Rattle.bitset.proofs.BitSets.{bitSet-ext, inserted-set}
-use Rattle.layout.specs.Layout.{X, shapeOf, linkOf}
-use Rattle.layout.specs.Shaped.{mapOf, unitWordsOf}
-use Rattle.image.specs.Soundness.{leading, mapped, unitsOf}
-use Rattle.image.specs.Verdicts.{goodLink, goodMap, sizeFits}
-use Rattle.image.specs.Loading.{unitSetWords, mapSetWords}
-use Rattle.image.specs.Claims.{heldIn}
-use Rattle.image.specs.Survey.{goodLinkMap, namesOf, claimCount, heldBelow, namedBelow, claimCountBelow}
-use Rattle.image.proofs.Chunks.{units-absent, absent-link, absent-map, units-named, named-link, good-form, bad-form, good-some, length-units, mapped-named, unmapped-absent}
-use Rattle.image.proofs.Leading.{leading-prefix}
+use Rattle.bitset.specs.Bits.{bitSet, inserted, wordsFor}
+use Rattle.bitset.proofs.BitSets.{bitSet-ext, length-inserted, inserted-set}
+use Rattle.layout.specs.declared.Shape.{Shape}
+use Rattle.layout.specs.Layout.{X, maxChunkUnits, isUnit, shapeOf, linkOf}
+use Rattle.layout.specs.Shaped.{Shaped, mapOf, unitWordsOf}
+use Rattle.image.specs.Soundness.{leading, mapped}
+use Rattle.image.specs.Verdicts.{goodLink, sizeFits}
+use Rattle.image.specs.Survey.{hasBit, claimedIn, claimsOf, namesOf, formBy, claimsForm, goodClaims, badChunk, taken, unitsTaken, mapsTaken}
+use Rattle.image.proofs.Chunks.{form-empty, form-held, absent-link, named-link, length-unitWords, mapped-named, unmapped-absent}
+use Rattle.image.proofs.Leading.{leading-prefix, length-leading, leading-more, leading-stop, leading-end}
+use Rattle.image.proofs.MapWords.{length-unitsIn}
+use Rattle.image.proofs.Naming.{names-absent, names-named}
 
--- ---- the words of a map, of which the first j have been put into the set f
+-- ---- the words of a map, put into a set
 
-module _ (f : ℕ → Bool) (n : ℕ) where
-  pub put-none : (set : List ℕ) → set ≡ bitSet f n → set ≡ bitSet (withAll f []) n
-  put-none set e = e ∙ bitSet-ext _ _ n (λ y h. withAll-none f y)
+put-none : (f : ℕ → Bool) (n : ℕ) (set : List ℕ) → set ≡ bitSet f n → set ≡ bitSet (withAll f []) n
+put-none f n set e = e ∙ bitSet-ext _ _ n (λ y h. withAll-none f y)
 
-  pub put-more : (ws : List ℕ) (j x : ℕ) (set after : List ℕ) → j < length ws → x ≡ getD ws j 0
-      → set ≡ bitSet (withAll f (take j ws)) n → after ≡ inserted set x → after ≡ bitSet (withAll f (take (j + 1) ws)) n
-  put-more ws j x set after h w e s =
-      s ∙ ap (λ (l : List ℕ). inserted l x) e ∙ inserted-set (withAll f (take j ws)) n x ∙ rw w (bitSet-ext _ _ n (λ y l. withAll-more f ws j h y))
+-- the first j of them have been put in: so many more will be, and every set n words had before is this one now
+pub record PutWords (s : List ℕ) (k n : ℕ) (before : List ℕ) (j : ℕ) (set : List ℕ) : Type 0 where
+  pub size : length set ≡ n
+  pub count : length (claimedIn s k) ≡ j + length (leading (hasBit (shapeOf s)) (drop j (unitWordsOf s k)))
+  pub holds : (f : ℕ → Bool) → before ≡ bitSet f n → set ≡ bitSet (withAll f (take j (unitWordsOf s k))) n
 
-  pub put-end : (g : ℕ → Bool) (ws : List ℕ) (j : ℕ) (set : List ℕ) → length (leading g ws) ≡ j
-      → set ≡ bitSet (withAll f (take j ws)) n → set ≡ bitSet (withAll f (leading g ws)) n
-  put-end g ws j set q e =
-      e ∙ ap (λ (l : List ℕ). bitSet (withAll f l) n) (ap (λ (i : ℕ). take i ws) (sym q) ∙ sym (leading-prefix g ws))
+-- what `put_units` promises of its answer r and the set that it left
+abbrev pub AllPut : List ℕ → ℕ → ℕ → List ℕ → ℕ → List ℕ → Type 0
+AllPut s k n before r set = (r ≡ length (claimedIn s k)) × ((f : ℕ → Bool) → before ≡ bitSet f n → set ≡ bitSet (withAll f (claimedIn s k)) n)
+
+module _ (s : List ℕ) (k n : ℕ) (before : List ℕ) where
+  pub puts-none : length before ≡ n → PutWords s k n before 0 before
+  puts-none e = record { size = e; count = omega arith; holds = λ f q. put-none f n before q }
+
+  module _ (j : ℕ) (set : List ℕ) (p : PutWords s k n before j set) where
+    -- no word is left, or none that has a bit
+    puts-stop : length (leading (hasBit (shapeOf s)) (drop j (unitWordsOf s k))) ≡ 0 → AllPut s k n before j set
+    puts-stop z =
+        let e : length (claimedIn s k) ≡ j = omega (arith, p .count) in (
+          sym e,
+          λ f q. p .holds f q ∙ ap (λ (l : List ℕ). bitSet (withAll f l) n)
+              (ap (λ (i : ℕ). take i (unitWordsOf s k)) (sym e) ∙ sym (leading-prefix (hasBit (shapeOf s)) (unitWordsOf s k))),
+        )
+
+    pub puts-end : length (unitWordsOf s k) ≤ j → AllPut s k n before j set
+    puts-end h = puts-stop (leading-end (hasBit (shapeOf s)) (unitWordsOf s k) j h)
+
+    -- word j goes in, and b says whether it has a bit
+    module _ (g : Shape) (h : Shaped s g) (en : n ≡ wordsFor (g .n)) (l : j < g .p) (w : ℕ) (ew : w ≡ getD (unitWordsOf s k) j 0)
+        (b : Bool) (eb : b ≡ ltb w (64 * length set)) (after : List ℕ) (ea : after ≡ inserted set w) where
+      there : j < length (unitWordsOf s k)
+      there = omega (arith, length-unitsIn s g k h)
+
+      bit : hasBit (shapeOf s) (getD (unitWordsOf s k) j 0) ≡ b
+      unfolding hasBit
+      bit = sym (eb ∙ rw (ew, p .size, en, h .same))
+
+      pub puts-one : (i : ℕ) → i ≡ j + 1 → b ≡ true → PutWords s k n before i after
+      puts-one i e t =
+          subst (λ (x : ℕ). PutWords s k n before x after) (sym e)
+          record {
+            size = ap length ea ∙ length-inserted set w ∙ p .size;
+            count = omega (arith, p .count, leading-more (hasBit (shapeOf s)) (unitWordsOf s k) j there (bit ∙ t));
+            holds = λ f q. ea ∙ ap (λ (v : List ℕ). inserted v w) (p .holds f q) ∙ inserted-set (withAll f (take j (unitWordsOf s k))) n w
+                ∙ rw ew (bitSet-ext _ _ n (λ y m. withAll-more f (unitWordsOf s k) j there y));
+          }
+
+      -- it has none, and goes in without a trace
+      pub puts-no : b ≡ false → AllPut s k n before j after
+      puts-no t =
+          let all = puts-stop (leading-stop (hasBit (shapeOf s)) (unitWordsOf s k) j there (bit ∙ t)) in
+          let past : 64 * n ≤ w = let q = ltb-false w (64 * length set) (sym eb ∙ t) in omega (arith, p .size) in (
+            all .0,
+            λ f q. ea ∙ ap (λ (v : List ℕ). inserted v w) (all .1 f q) ∙ inserted-set (withAll f (claimedIn s k)) n w
+                ∙ bitSet-ext _ _ n (λ y m. put-other (withAll f (claimedIn s k)) w true y (λ z. absurd (omega arith))),
+          )
 
 -- ---- what one chunk claims
 
 module _ (s : List ℕ) (i : ℕ) where
-  pub names-absent : linkOf s i ≡ X → namesOf s i ≡ []
-  unfolding namesOf
-  names-absent e = rw (eq-eqb (linkOf s i) X e)
+  pub claims-absent : linkOf s i ≡ X → claimsOf s i ≡ []
+  unfolding claimsOf
+  claims-absent e = rw (eq-eqb (linkOf s i) X e)
 
-  pub names-named : (linkOf s i ≡ X → ⊥) → namesOf s i ≡ linkOf s i ∷ []
-  unfolding namesOf
-  names-named e = rw (ne-eqb (linkOf s i) X e)
+  pub claims-named : (linkOf s i ≡ X → ⊥) → claimsOf s i ≡ claimedIn s (linkOf s i)
+  unfolding claimsOf
+  claims-named e = rw (ne-eqb (linkOf s i) X e)
 
-  claims-absent : linkOf s i ≡ X → claimCount s i ≡ 0
-  claims-absent e = rw (names-absent e, units-absent s i e)
+  pub form-absent : linkOf s i ≡ X → claimsForm s i ≡ true
+  form-absent e = rw (eq-eqb (linkOf s i) X e)
 
-  claims-named : (linkOf s i ≡ X → ⊥) → claimCount s i ≡ 1 + length (unitsOf s i)
-  claims-named e = rw (names-named e)
+  pub form-named : (linkOf s i ≡ X → ⊥) → claimsForm s i ≡ formBy (hasBit (shapeOf s)) (shapeOf s) (mapOf s (linkOf s i))
+  form-named e = rw (ne-eqb (linkOf s i) X e)
 
-  claims-few : claimCount s i ≤ 1 + shapeOf s .p
-  claims-few = ⊎-elim
-      (λ m. omega (arith, claims-named (mapped-named s i m), length-units s i))
-      (λ m. omega (arith, claims-absent (unmapped-absent s i m)))
+  length-claims : length (claimsOf s i) ≤ shapeOf s .p
+  length-claims = ⊎-elim
+      (λ m. let e = ap length (claims-named (mapped-named s i m)) in
+      let l = length-leading (hasBit (shapeOf s)) (unitWordsOf s (linkOf s i)) in
+      let w = length-unitWords (shapeOf s) s (linkOf s i) in
+      omega arith)
+      (λ m. let e = ap length (claims-absent (unmapped-absent s i m)) in omega arith)
       (either (mapped s i))
 
-  -- a chunk of which neither row 4 nor row 5 holds claims nothing, or a map and a unit at least
-  claims-good : goodLinkMap s i ≡ true → claimCount s i ≡ 1 → ⊥
-  claims-good h one = ⊎-elim
-      (λ m. omega (arith, claims-named (mapped-named s i m), good-some s i m (and-right (goodLink s i) (goodMap s i) h)))
-      (λ m. omega (arith, claims-absent (unmapped-absent s i m)))
-      (either (mapped s i))
+-- ---- before the first chunk, and one chunk more
 
--- ---- one chunk more
+-- nothing is claimed: the numbers that are not free are those of which f does not hold
+start : (f : ℕ → Bool) (q : ℕ → List ℕ) (n : ℕ) (set : List ℕ) → set ≡ bitSet (λ u. not (f u)) n → set ≡ bitSet (taken f (joined q (below 0))) n
+unfolding joined from
+start f q n set e = put-none (λ u. not (f u)) n set e
 
-module _ (s : List ℕ) (i : ℕ) where
-  held-more : (u : ℕ) → heldBelow s (i + 1) u ≡ (heldBelow s i u || member u (unitsOf s i))
-  unfolding heldBelow
-  held-more u = rw (add-one i, joined-last (unitsOf s) i) (member-append u (joined (unitsOf s) (below i)) (unitsOf s i))
+pub units-start : (s : List ℕ) (g : Shape) (us : List ℕ) → g ≡ shapeOf s → us ≡ bitSet (λ u. not (leb (g .r) u && ltb u (g .n))) (wordsFor (g .n))
+    → us ≡ bitSet (unitsTaken s 0) (wordsFor (shapeOf s .n))
+unfolding isUnit
+units-start s g us q e =
+    start (isUnit (shapeOf s)) (claimsOf s) (wordsFor (shapeOf s .n)) us
+    (e ∙ ap (λ (h : Shape). bitSet (λ u. not (leb (h .r) u && ltb u (h .n))) (wordsFor (h .n))) q)
 
-  named-more : (k : ℕ) → namedBelow s (i + 1) k ≡ (namedBelow s i k || member k (namesOf s i))
-  unfolding namedBelow
-  named-more k = rw (add-one i, joined-last (namesOf s) i) (member-append k (joined (namesOf s) (below i)) (namesOf s i))
+pub maps-start : (s : List ℕ) (g : Shape) (ms : List ℕ) → g ≡ shapeOf s → ms ≡ bitSet (λ u. not (leb 0 u && ltb u (g .m))) (wordsFor (g .m))
+    → ms ≡ bitSet (mapsTaken s 0) (wordsFor (shapeOf s .m))
+maps-start s g ms q e =
+    start (λ k. ltb k (shapeOf s .m)) (namesOf s) (wordsFor (shapeOf s .m)) ms
+    (e ∙ bitSet-ext _ _ (wordsFor (g .m)) (λ y h. rw (le-leb 0 y (omega arith))) ∙ ap (λ (h : Shape). bitSet (λ k. not (ltb k (h .m))) (wordsFor (h .m))) q)
 
-  claims-more : claimCountBelow s (i + 1) ≡ claimCountBelow s i + claimCount s i
-  unfolding claimCountBelow
-  claims-more =
-      let a = length-append (joined (namesOf s) (below i)) (namesOf s i) in
-      let b = length-append (joined (unitsOf s) (below i)) (unitsOf s i) in
-      rw (add-one i, joined-last (namesOf s) i, joined-last (unitsOf s) i) (omega arith)
+pub claims-none : (s : List ℕ) → 0 ≡ length (joined (claimsOf s) (below 0))
+unfolding joined from
+claims-none s = refl
 
--- ---- what `put_claims` owes at each of its returns, where the code has the chunk's entry k and the count h of the units of that map
+-- the numbers of one list more are not free
+taken-more : (f : ℕ → Bool) (q : ℕ → List ℕ) (i y : ℕ) → taken f (joined q (below (i + 1))) y ≡ (taken f (joined q (below i)) y || member y (q i))
+unfolding withAll
+taken-more f q i y =
+    rw (add-one i, joined-last q i, member-append y (joined q (below i)) (q i)) (sym (or-assoc (not (f y)) (member y (joined q (below i))) (member y (q i))))
+
+claims-more : (s : List ℕ) (i : ℕ) → length (joined (claimsOf s) (below (i + 1))) ≡ length (joined (claimsOf s) (below i)) + length (claimsOf s i)
+claims-more s i = rw (add-one i, joined-last (claimsOf s) i) (length-append (joined (claimsOf s) (below i)) (claimsOf s i))
+
+-- ---- what `put_claims` owes at each of its returns, where the code has the chunk's entry k and the count h of what it claims
 
 -- its promises on chunk i, of the answer r and the sets it left
 abbrev pub Put : List ℕ → ℕ → ℕ → List ℕ → List ℕ → Type 0
 Put s i r units maps =
-    (r ≡ cond (goodLinkMap s i) (claimCount s i) 1)
-    × ((goodLinkMap s i ≡ true → units ≡ bitSet (heldBelow s (i + 1)) unitSetWords)
-    × (goodLinkMap s i ≡ true → maps ≡ bitSet (namedBelow s (i + 1)) mapSetWords))
+    (r ≡ cond (goodClaims s i) (length (claimsOf s i)) badChunk)
+    × ((goodClaims s i ≡ true → units ≡ bitSet (unitsTaken s (i + 1)) (wordsFor (shapeOf s .n)))
+    × (goodClaims s i ≡ true → maps ≡ bitSet (mapsTaken s (i + 1)) (wordsFor (shapeOf s .m))))
 
--- so 1 is the answer exactly of a chunk of which row 4 or 5 holds
-module _ (s : List ℕ) (i r : ℕ) (e : r ≡ cond (goodLinkMap s i) (claimCount s i) 1) where
-  pub put-one : r ≡ 1 → goodLinkMap s i ≡ false
-  put-one one = is-false (goodLinkMap s i) (λ g. claims-good s i g (sym (cond-true (goodLinkMap s i) (claimCount s i) 1 g) ∙ sym e ∙ one))
+-- so that answer is given of just the chunks that are not good
+module _ (s : List ℕ) (i r : ℕ) (e : r ≡ cond (goodClaims s i) (length (claimsOf s i)) badChunk) where
+  good-count : goodClaims s i ≡ true → r ≡ length (claimsOf s i)
+  good-count g = e ∙ cond-true (goodClaims s i) (length (claimsOf s i)) badChunk g
 
-  pub put-good : (r ≡ 1 → ⊥) → goodLinkMap s i ≡ true
-  put-good n = is-true (goodLinkMap s i) (λ g. n (e ∙ cond-false (goodLinkMap s i) (claimCount s i) 1 g))
+  pub put-few : goodClaims s i ≡ true → r ≤ shapeOf s .p
+  put-few g = omega (arith, good-count g, length-claims s i)
 
-  pub put-count : goodLinkMap s i ≡ true → claimCountBelow s (i + 1) ≡ claimCountBelow s i + r
-  put-count g = claims-more s i ∙ omega (arith, e ∙ cond-true (goodLinkMap s i) (claimCount s i) 1 g)
+  pub put-bad : shapeOf s .p ≤ maxChunkUnits → r ≡ badChunk → goodClaims s i ≡ false
+  put-bad p b = is-false (goodClaims s i) (λ g. absurd (omega (arith, put-few g)))
 
-  pub put-few : r ≤ 1 + shapeOf s .p
-  put-few = ⊎-elim
-      (λ g. omega (arith, claims-few s i, e ∙ cond-true (goodLinkMap s i) (claimCount s i) 1 g))
-      (λ g. omega (arith, e ∙ cond-false (goodLinkMap s i) (claimCount s i) 1 g))
-      (either (goodLinkMap s i))
+  pub put-good : (r ≡ badChunk → ⊥) → goodClaims s i ≡ true
+  put-good n = is-true (goodClaims s i) (λ g. n (e ∙ cond-false (goodClaims s i) (length (claimsOf s i)) badChunk g))
 
-put-bad : (s : List ℕ) (i : ℕ) (units maps : List ℕ) → goodLinkMap s i ≡ false → Put s i 1 units maps
-put-bad s i units maps h = (sym (cond-false (goodLinkMap s i) (claimCount s i) 1 h), (λ t. contradict t h, λ t. contradict t h))
+  pub put-count : goodClaims s i ≡ true → length (joined (claimsOf s) (below (i + 1))) ≡ length (joined (claimsOf s) (below i)) + r
+  put-count g = claims-more s i ∙ omega (arith, good-count g)
+
+put-none-good : (s : List ℕ) (i : ℕ) (units maps : List ℕ) → goodClaims s i ≡ false → Put s i badChunk units maps
+put-none-good s i units maps h =
+    (sym (cond-false (goodClaims s i) (length (claimsOf s i)) badChunk h), (λ t. contradict t h, λ t. contradict t h))
 
 module _ (s : List ℕ) (i k : ℕ) (l : k ≡ linkOf s i) (units maps : List ℕ) where
-  pub put-absent : k ≡ X → units ≡ bitSet (heldBelow s i) unitSetWords → maps ≡ bitSet (namedBelow s i) mapSetWords → Put s i 0 units maps
+  pub put-absent : k ≡ X → units ≡ bitSet (unitsTaken s i) (wordsFor (shapeOf s .n)) → maps ≡ bitSet (mapsTaken s i) (wordsFor (shapeOf s .m))
+      → Put s i 0 units maps
   unfolding member any
   put-absent x u m =
       let e : linkOf s i ≡ X = sym l ∙ x in
-      let none = units-absent s i e in
-      let no = names-absent s i e in
-      let good = and-intro (goodLink s i) (goodMap s i) (absent-link s i e) (absent-map s i e) in (
-        sym (cond-true (goodLinkMap s i) (claimCount s i) 1 good ∙ claims-absent s i e),
+      let none = claims-absent s i e in
+      let no-name = names-absent s i e in
+      let good = and-intro (goodLink s i) (claimsForm s i) (absent-link s i e) (form-absent s i e) in
+      let units-more = taken-more (isUnit (shapeOf s)) (claimsOf s) i in
+      let maps-more = taken-more (λ j. ltb j (shapeOf s .m)) (namesOf s) i in (
+        sym (cond-true (goodClaims s i) (length (claimsOf s i)) badChunk good ∙ ap length none),
         (
-          λ t. u ∙ bitSet-ext _ _ unitSetWords (λ y h. sym (held-more s i y ∙ rw none (or-false (heldBelow s i y)))),
-          λ t. m ∙ bitSet-ext _ _ mapSetWords (λ y h. sym (named-more s i y ∙ rw no (or-false (namedBelow s i y)))),
+          λ t. u ∙ bitSet-ext _ _ (wordsFor (shapeOf s .n)) (λ y h. sym (units-more y ∙ rw none (or-false (unitsTaken s i y)))),
+          λ t. m ∙ bitSet-ext _ _ (wordsFor (shapeOf s .m)) (λ y h. sym (maps-more y ∙ rw no-name (or-false (mapsTaken s i y)))),
         ),
       )
 
@@ -139,39 +201,45 @@ module _ (s : List ℕ) (i k : ℕ) (l : k ≡ linkOf s i) (units maps : List �
     named : linkOf s i ≡ X → ⊥
     named w = x (l ∙ w)
 
-    pub put-past : shapeOf s .m ≤ k → Put s i 1 units maps
-    put-past b = put-bad s i units maps
-        (and-false-left (goodLink s i) (goodMap s i) (named-link s i named ∙ le-ltb (linkOf s i) (shapeOf s .m) (omega arith)))
+    pub put-high : shapeOf s .m ≤ k → Put s i badChunk units maps
+    put-high b = put-none-good s i units maps
+        (and-false-left (goodLink s i) (claimsForm s i) (named-link s i named ∙ le-ltb (linkOf s i) (shapeOf s .m) (omega arith)))
 
-    module _ (h : ℕ) (e : h ≡ length (heldIn s k)) where
-      bad-map : goodMap s i ≡ false → Put s i 1 units maps
-      bad-map b = put-bad s i units maps (and-false-right (goodLink s i) (goodMap s i) b)
+    module _ (h : ℕ) (e : h ≡ length (claimedIn s k)) where
+      bad-form : claimsForm s i ≡ false → Put s i badChunk units maps
+      bad-form b = put-none-good s i units maps (and-false-right (goodLink s i) (claimsForm s i) b)
 
-      pub put-empty : h ≡ 0 → Put s i 1 units maps
-      put-empty z = bad-map (bad-form s i k h l x e z)
+      form : claimsForm s i ≡ formBy (hasBit (shapeOf s)) (shapeOf s) (mapOf s k)
+      form = form-named s i named ∙ ap (λ (j : ℕ). formBy (hasBit (shapeOf s)) (shapeOf s) (mapOf s j)) (sym l)
+
+      pub put-empty : h ≡ 0 → Put s i badChunk units maps
+      put-empty z = bad-form (form ∙ form-empty (hasBit (shapeOf s)) (shapeOf s) (mapOf s k) h e z)
 
       module _ (z : h ≡ 0 → ⊥) where
-        rest-size : goodMap s i ≡ (all (eqb X) (drop h (unitWordsOf s k)) && sizeFits (shapeOf s) h (mapOf s k))
-        rest-size = good-form s i k h l x e z
+        rest-size : claimsForm s i ≡ (all (eqb X) (drop h (unitWordsOf s k)) && sizeFits (shapeOf s) h (mapOf s k))
+        rest-size = form ∙ form-held (hasBit (shapeOf s)) (shapeOf s) (mapOf s k) h e z
 
-        pub put-rest : all (eqb X) (drop h (unitWordsOf s k)) ≡ false → Put s i 1 units maps
-        put-rest b = bad-map (rest-size ∙ and-false-left _ (sizeFits (shapeOf s) h (mapOf s k)) b)
+        pub put-rest : all (eqb X) (drop h (unitWordsOf s k)) ≡ false → Put s i badChunk units maps
+        put-rest b = bad-form (rest-size ∙ and-false-left _ (sizeFits (shapeOf s) h (mapOf s k)) b)
 
-        pub put-size : sizeFits (shapeOf s) h (mapOf s k) ≡ false → Put s i 1 units maps
-        put-size b = bad-map (rest-size ∙ and-false-right (all (eqb X) (drop h (unitWordsOf s k))) _ b)
+        pub put-size : sizeFits (shapeOf s) h (mapOf s k) ≡ false → Put s i badChunk units maps
+        put-size b = bad-form (rest-size ∙ and-false-right (all (eqb X) (drop h (unitWordsOf s k))) _ b)
 
         pub put-named : k < shapeOf s .m → all (eqb X) (drop h (unitWordsOf s k)) ≡ true → sizeFits (shapeOf s) h (mapOf s k) ≡ true
-            → units ≡ bitSet (withAll (heldBelow s i) (heldIn s k)) unitSetWords → maps ≡ bitSet (put (namedBelow s i) k true) mapSetWords
-            → Put s i (1 + h) units maps
+            → units ≡ bitSet (withAll (unitsTaken s i) (claimedIn s k)) (wordsFor (shapeOf s .n))
+            → maps ≡ bitSet (put (mapsTaken s i) k true) (wordsFor (shapeOf s .m))
+            → Put s i h units maps
         unfolding withAll member any
         put-named b a f u m =
-            let us : unitsOf s i ≡ heldIn s k = units-named s i named ∙ ap (heldIn s) (sym l) in
+            let us : claimsOf s i ≡ claimedIn s k = claims-named s i named ∙ ap (claimedIn s) (sym l) in
             let ks : namesOf s i ≡ k ∷ [] = names-named s i named ∙ ap (λ (y : ℕ). y ∷ []) (sym l) in
-            let good = and-intro (goodLink s i) (goodMap s i) (named-link s i named ∙ lt-ltb (linkOf s i) (shapeOf s .m) (omega arith))
-            (rest-size ∙ and-intro (all (eqb X) (drop h (unitWordsOf s k))) (sizeFits (shapeOf s) h (mapOf s k)) a f) in (
-              sym (cond-true (goodLinkMap s i) (claimCount s i) 1 good ∙ claims-named s i named ∙ omega (arith, ap length us)),
+            let good = and-intro (goodLink s i) (claimsForm s i) (named-link s i named ∙ lt-ltb (linkOf s i) (shapeOf s .m) (omega arith))
+            (rest-size ∙ and-intro (all (eqb X) (drop h (unitWordsOf s k))) (sizeFits (shapeOf s) h (mapOf s k)) a f) in
+            let units-more = taken-more (isUnit (shapeOf s)) (claimsOf s) i in
+            let maps-more = taken-more (λ j. ltb j (shapeOf s .m)) (namesOf s) i in (
+              sym (cond-true (goodClaims s i) (length (claimsOf s i)) badChunk good ∙ ap length us ∙ sym e),
               (
-                λ t. u ∙ bitSet-ext _ _ unitSetWords (λ y q. sym (held-more s i y ∙ rw us)),
-                λ t. m ∙ bitSet-ext _ _ mapSetWords (λ y q. put-in (namedBelow s i) k y ∙ sym (named-more s i y ∙ rw (ks, or-false (eqb y k)))),
+                λ t. u ∙ bitSet-ext _ _ (wordsFor (shapeOf s .n)) (λ y q. sym (units-more y ∙ rw us)),
+                λ t. m ∙ bitSet-ext _ _ (wordsFor (shapeOf s .m)) (λ y q. put-in (mapsTaken s i) k y ∙ sym (maps-more y ∙ rw (ks, or-false (eqb y k)))),
               ),
             )

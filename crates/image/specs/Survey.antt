@@ -1,49 +1,67 @@
 -- What the one pass over the chunks keeps and answers. Only the loader's inner functions and the proofs cite it.
-use Prim.Native.Nat.{ℕ, _+_}
+use Prim.Native.Nat.{ℕ, _+_, _*_}
 use mathlib.Core.Path.{_≡_}
-use mathlib.Core.Bool.{Bool, true, false, _&&_, cond}
+use mathlib.Core.Bool.{Bool, true, false, not, _&&_, _||_, cond}
 use mathlib.Core.List.{List, [], _∷_}
 use lib.ListN.{length}
-use Rattle.search.specs.Search.{below, member, joined}
-use Rattle.bitset.specs.Bits.{bitSet}
-use Rattle.layout.specs.Layout.{linkOf}
+use lib.Dec.{ltb}
+use Rattle.search.specs.Search.{below, joined}
+use Rattle.search.specs.Sets.{withAll}
+use Rattle.bitset.specs.Bits.{bitSet, wordsFor}
+use Rattle.layout.specs.declared.Shape.{Shape}
+use Rattle.layout.specs.Layout.{maxChunkUnits, isUnit, shapeOf, wordsOf, unitWords, linkOf}
+use Rattle.layout.specs.Shaped.{unitWordsOf}
 use Rattle.image.specs.declared.Verdict.{Verdict}
-use Rattle.image.specs.Soundness.{mapped, unitsOf}
-use Rattle.image.specs.Verdicts.{goodLink, goodMap, chunkVerdict}
+use Rattle.image.specs.Soundness.{leading, mapped}
+use Rattle.image.specs.Verdicts.{goodLink, wellFormed, sizeFits, chunkVerdict}
 use Rattle.image.specs.Free.{freeUnit, freeMap}
-use Rattle.image.specs.Loading.{unitSetWords, mapSetWords}
 use Rattle.image.specs.Answers.{ifSound}
 
 -- ---- one chunk
 
--- neither row 4, "entry neither X nor below M", nor row 5, "a named map of the wrong form", holds of chunk i
-abbrev pub goodLinkMap : List ℕ → ℕ → Bool
-goodLinkMap s i = goodLink s i && goodMap s i
+-- u has a bit among those of the units: all that the pass asks of a word of a map. That none is reserved or from N on is found by counting.
+unfoldable pub hasBit : Shape → ℕ → Bool
+hasBit g u = ltb u (64 * wordsFor (g .n))
+
+-- the words of map k before the first that has no bit, and what chunk i claims
+abbrev pub claimedIn : List ℕ → ℕ → List ℕ
+claimedIn s k = leading (hasBit (shapeOf s)) (unitWordsOf s k)
+
+unfoldable pub claimsOf : List ℕ → ℕ → List ℕ
+claimsOf s i = cond (mapped s i) (claimedIn s (linkOf s i)) []
 
 -- the map that chunk i names: one number, or none
 unfoldable pub namesOf : List ℕ → ℕ → List ℕ
 namesOf s i = cond (mapped s i) (linkOf s i ∷ []) []
 
--- how many maps and units chunk i claims; and what is said in its place of a chunk of which row 4 or 5 holds
-abbrev pub claimCount : List ℕ → ℕ → ℕ
-claimCount s i = length (namesOf s i) + length (unitsOf s i)
+-- the form of a map by any test of its units: `goodForm g` is that by `isUnit g`
+unfoldable pub formBy : (ℕ → Bool) → Shape → List ℕ → Bool
+formBy f g ws = let us = unitWords g ws in wellFormed f us && sizeFits g (length (leading f us)) ws
 
+-- chunk i names no map, or one of the right form as far as the pass looks
+abbrev pub claimsForm : List ℕ → ℕ → Bool
+claimsForm s i = let g = shapeOf s in not (mapped s i) || formBy (hasBit g) g (wordsOf g s (linkOf s i))
+
+-- and row 4, "entry neither X nor below M", does not hold of it
+abbrev pub goodClaims : List ℕ → ℕ → Bool
+goodClaims s i = goodLink s i && claimsForm s i
+
+-- what is said, in place of how many units it claims, of a chunk of which that is not so: no chunk claims so many
 abbrev pub badChunk : ℕ
-badChunk = 1
+badChunk = maxChunkUnits + 1
 
 -- ---- the chunks below j
 
--- unit u is held by one of them: what `unheld` denies, said of the list, whose numbers are counted
-unfoldable pub heldBelow : List ℕ → ℕ → ℕ → Bool
-heldBelow s j u = member u (joined (unitsOf s) (below j))
+-- the numbers that are not free: those of which f does not hold, and those of a list
+abbrev pub taken : (ℕ → Bool) → List ℕ → ℕ → Bool
+taken f xs = withAll (λ u. not (f u)) xs
 
--- map k is named by one of them
-unfoldable pub namedBelow : List ℕ → ℕ → ℕ → Bool
-namedBelow s j k = member k (joined (namesOf s) (below j))
+-- the units and the maps that are not free once these chunks have claimed theirs
+abbrev pub unitsTaken : List ℕ → ℕ → ℕ → Bool
+unitsTaken s j = taken (isUnit (shapeOf s)) (joined (claimsOf s) (below j))
 
--- how many maps and units they claim: "a map or unit claimed twice" counts twice
-unfoldable pub claimCountBelow : List ℕ → ℕ → ℕ
-claimCountBelow s j = length (joined (namesOf s) (below j)) + length (joined (unitsOf s) (below j))
+abbrev pub mapsTaken : List ℕ → ℕ → ℕ → Bool
+mapsTaken s j = taken (λ k. ltb k (shapeOf s .m)) (joined (namesOf s) (below j))
 
 -- ---- all chunks
 
@@ -51,8 +69,9 @@ claimCountBelow s j = length (joined (namesOf s) (below j)) + length (joined (un
 abbrev pub passed : Verdict → Bool
 passed v = ifSound v (λ r. false) true
 
--- the pass says yes exactly where no row of 4 to 6 holds, and then the sets hold what is free; where it says no, nothing is said of them
-pub record Surveyed (s : List ℕ) (ok : Bool) (units maps : List ℕ) : Type 0 where
+-- the pass says yes exactly where no row of 4 to 6 holds, and then the sets, of so many words each, hold what is free; where it says no, nothing is said of
+-- them
+pub record Surveyed (s : List ℕ) (ok : Bool) (unitWords mapWords : ℕ) (units maps : List ℕ) : Type 0 where
   pub right : ok ≡ passed (chunkVerdict s)
-  pub units-left : ok ≡ true → units ≡ bitSet (freeUnit s) unitSetWords
-  pub maps-left : ok ≡ true → maps ≡ bitSet (freeMap s) mapSetWords
+  pub units-left : ok ≡ true → units ≡ bitSet (freeUnit s) unitWords
+  pub maps-left : ok ≡ true → maps ≡ bitSet (freeMap s) mapWords

@@ -1,4 +1,5 @@
 // The loader: an image's first refusal, or its shape and what is free.
+use crate::survey::passes;
 use crate::survey::survey;
 use image::Loaded;
 use image::MAP_SET_WORDS;
@@ -14,6 +15,10 @@ ghost use mathlib.Core.Path.{_≡_};
 ghost use Prim.Native.Nat.{ℕ};
 ghost use mathlib.Core.List.{List};
 ghost use lib.ListN.{replicate};
+ghost use mathlib.Core.Bool.{false};
+ghost use Rattle.layout.specs.Shaped.{Shaped};
+ghost use Rattle.image.specs.Verdicts.{chunkVerdict};
+ghost use Rattle.image.specs.Survey.{passed};
 ghost use Rattle.image.specs.Loading.{unitSetWords, mapSetWords, answer, loaded};
 ghost use Rattle.image.specs.Outcomes.{outcome, LoadedInto};
 
@@ -36,8 +41,24 @@ fn refused(r: Refusal) -> Loaded
     }
 }
 
+// The refusal of an image whose trailer passes, where row 4, 5 or 6 holds. Only a refusal comes here, and the scans' sets are its own.
+fn refusal(image: &[u8], g: Shape) -> Refusal
+    requires { ⌜ Shaped (now image) g ⌝ }
+    requires { ⌜ passed (chunkVerdict (now image)) ≡ false ⌝ }
+    ensures { λ r. ⌜ chunkVerdict (now (image .entry)) ≡ Verdict.Refused r ⌝ }
+{
+    let mut units = [0u64; UNIT_SET_WORDS];
+    let mut maps = [0u64; MAP_SET_WORDS];
+    let v = judge(image, g, &mut units, &mut maps);
+    match v {
+        Verdict::Refused(r) => r,
+        // It never comes to this: some row holds.
+        Verdict::Passed => Refusal::Geometry,
+    }
+}
+
 // The first refusal of rows 1 to 6, or the shape of a sound image: then the lent sets, which begin empty, are left with what is free. Most images are
-// sound, and one pass says so; of any other the scans find the refusal.
+// sound, and one pass says so.
 pub fn load_into(image: &[u8], units: &mut [u64], maps: &mut [u64]) -> Outcome
     requires { ⌜ (now units ≡ replicate unitSetWords 0) × (now maps ≡ replicate mapSetWords 0) ⌝ }
     ensures { λ r. ⌜ LoadedInto (now (image .entry)) r (now (units .exit)) (now (maps .exit)) ⌝ }
@@ -48,12 +69,7 @@ pub fn load_into(image: &[u8], units: &mut [u64], maps: &mut [u64]) -> Outcome
             if survey(image, g, units, maps) {
                 return Outcome::Sound(g);
             }
-            // The pass said no, so this is a refusal; the scans' own promise does not need to know.
-            let v = judge(image, g, units, maps);
-            match v {
-                Verdict::Passed => Outcome::Sound(g),
-                Verdict::Refused(r) => Outcome::Refused(r),
-            }
+            Outcome::Refused(refusal(image, g))
         }
         Trailer::Refused(r) => Outcome::Refused(r),
     }
@@ -63,9 +79,16 @@ pub fn load_into(image: &[u8], units: &mut [u64], maps: &mut [u64]) -> Outcome
 pub fn check_image(image: &[u8]) -> Outcome
     ensures { λ r. ⌜ r ≡ outcome (now (image .entry)) ⌝ }
 {
-    let mut units = [0u64; UNIT_SET_WORDS];
-    let mut maps = [0u64; MAP_SET_WORDS];
-    load_into(image, &mut units, &mut maps)
+    let t = check_trailer(image);
+    match t {
+        Trailer::Fits(g) => {
+            if passes(image, g) {
+                return Outcome::Sound(g);
+            }
+            Outcome::Refused(refusal(image, g))
+        }
+        Trailer::Refused(r) => Outcome::Refused(r),
+    }
 }
 
 // The same in one value, with the sets.

@@ -1,7 +1,10 @@
 // One pass over the chunks of an image: whether they are sound, and then what is free. Where it says no, the scans look again for the refusal.
-use bitset::complement;
-use bitset::count_words;
+use bitset::count;
+use bitset::fill_outside;
+use bitset::insert;
+use bitset::invert;
 use bitset::place;
+use bitset::words_for;
 use image::MAP_SET_WORDS;
 use image::UNIT_SET_WORDS;
 use image::maps::absent_from;
@@ -9,8 +12,8 @@ use image::maps::link;
 use image::maps::size_fits;
 use image::maps::unit_word;
 use layout::ABSENT;
+use layout::MAX_CHUNK_UNITS;
 use layout::Shape;
-use layout::geometry::is_unit;
 ghost use mathlib.Core.Path.{_≡_};
 ghost use mathlib.Core.Bool.{Bool, true, cond};
 ghost use Prim.Native.Nat.{ℕ, _+_, _<_, _≤_};
@@ -18,42 +21,50 @@ ghost use lib.ListN.{length, replicate, take, drop};
 ghost use lib.Dec.{eqb};
 ghost use Rattle.search.specs.Search.{all};
 ghost use Rattle.search.specs.Sets.{withAll};
-ghost use Rattle.bitset.specs.Bits.{bitSet};
-ghost use Rattle.layout.specs.Layout.{X};
+ghost use Rattle.bitset.specs.Bits.{bitSet, wordsFor};
+ghost use Rattle.layout.specs.Layout.{X, shapeOf};
 ghost use Rattle.layout.specs.Shaped.{Shaped, unitWordsOf};
 ghost use Rattle.image.specs.Verdicts.{chunkVerdict};
 ghost use Rattle.image.specs.Loading.{unitSetWords, mapSetWords};
-ghost use Rattle.image.specs.Claims.{heldIn};
-ghost use Rattle.image.specs.Survey.{badChunk, goodLinkMap, claimCount, heldBelow, namedBelow, passed, Surveyed};
+ghost use Rattle.image.specs.Survey.{claimedIn, claimsOf, goodClaims, badChunk, unitsTaken, mapsTaken, passed, Surveyed};
 
-// Said of a chunk of which row 4 or 5 holds. No other makes one claim: it makes none, or those of a map and of a unit at least.
-const BAD_CHUNK: usize = 1;
+// Said of a chunk with a bad entry, or whose map has the wrong form as far as the pass looks, in place of how many units it claims.
+const BAD_CHUNK: usize = MAX_CHUNK_UNITS as usize + 1;
 
 // So many words of a map are looked at together.
 const RUN: usize = 4;
 
 const TWO_RUNS: usize = 2 * RUN;
 
-// Puts the units that map k holds into a set: how many they are.
+// Puts the words of map k into the units' set, before the first that has no bit there: how many they are. Two words a turn: a loop that ends at each word
+// takes longer.
 fn put_units(image: &[u8], g: Shape, k: usize, units: &mut [u64]) -> usize
     requires { ⌜ Shaped (now image) g ⌝ }
-    requires { ⌜ (k < g .m) × (length (now units) ≡ unitSetWords) ⌝ }
-    ensures { λ r. ⌜ r ≡ length (heldIn (now (image .entry)) k) ⌝ }
+    requires { ⌜ (k < g .m) × (length (now units) ≡ wordsFor (g .n)) ⌝ }
+    ensures { λ r. ⌜ r ≡ length (claimedIn (now (image .entry)) k) ⌝ }
     ensures { λ r. ⌜
-        ((f : ℕ → Bool) → now (units .entry) ≡ bitSet f unitSetWords → now (units .exit) ≡ bitSet (withAll f (heldIn (now (image .entry)) k)) unitSetWords)
+        ((f : ℕ → Bool) → now (units .entry) ≡ bitSet f (wordsFor (g .n))
+        → now (units .exit) ≡ bitSet (withAll f (claimedIn (now (image .entry)) k)) (wordsFor (g .n)))
         ⌝ }
 {
     let p = g.p as usize;
     let mut j: usize = 0;
-    while j < p {
-        let u = unit_word(image, g, k, j);
-        if !is_unit(g, u) {
+    while j + 1 < p {
+        if !insert(units, unit_word(image, g, k, j)) {
             return j;
         }
-        place(units, u as usize);
-        j += 1;
+        if !insert(units, unit_word(image, g, k, j + 1)) {
+            return j + 1;
+        }
+        j += 2;
     }
-    j
+    if j == p {
+        return j;
+    }
+    if !insert(units, unit_word(image, g, k, j)) {
+        return j;
+    }
+    j + 1
 }
 
 // X exactly where four words of map k, of those that name units, are X, from word j on.
@@ -88,18 +99,20 @@ fn rest_absent(image: &[u8], g: Shape, k: usize, start: usize) -> bool
     absent_from(image, g, k, start)
 }
 
-// Puts what chunk i claims, its map and its units, into the sets: how many claims these are, or BAD_CHUNK where row 4 or 5 holds of it.
+// Puts what chunk i claims, its map and its units, into the sets: how many units these are, or BAD_CHUNK.
 fn put_claims(image: &[u8], g: Shape, i: usize, units: &mut [u64], maps: &mut [u64]) -> usize
     requires { ⌜ Shaped (now image) g ⌝ }
     requires { ⌜ i < g .c ⌝ }
-    requires { ⌜ now units ≡ bitSet (heldBelow (now image) i) unitSetWords ⌝ }
-    requires { ⌜ now maps ≡ bitSet (namedBelow (now image) i) mapSetWords ⌝ }
-    ensures { λ r. ⌜ r ≡ cond (goodLinkMap (now (image .entry)) i) (claimCount (now (image .entry)) i) badChunk ⌝ }
+    requires { ⌜ now units ≡ bitSet (unitsTaken (now image) i) (wordsFor (shapeOf (now image) .n)) ⌝ }
+    requires { ⌜ now maps ≡ bitSet (mapsTaken (now image) i) (wordsFor (shapeOf (now image) .m)) ⌝ }
+    ensures { λ r. ⌜ r ≡ cond (goodClaims (now (image .entry)) i) (length (claimsOf (now (image .entry)) i)) badChunk ⌝ }
     ensures { λ r. ⌜
-        (goodLinkMap (now (image .entry)) i ≡ true → now (units .exit) ≡ bitSet (heldBelow (now (image .entry)) (i + 1)) unitSetWords)
+        (goodClaims (now (image .entry)) i ≡ true
+        → now (units .exit) ≡ bitSet (unitsTaken (now (image .entry)) (i + 1)) (wordsFor (shapeOf (now (image .entry)) .n)))
         ⌝ }
     ensures { λ r. ⌜
-        (goodLinkMap (now (image .entry)) i ≡ true → now (maps .exit) ≡ bitSet (namedBelow (now (image .entry)) (i + 1)) mapSetWords)
+        (goodClaims (now (image .entry)) i ≡ true
+        → now (maps .exit) ≡ bitSet (mapsTaken (now (image .entry)) (i + 1)) (wordsFor (shapeOf (now (image .entry)) .m)))
         ⌝ }
 {
     let w = link(image, g, i);
@@ -111,7 +124,7 @@ fn put_claims(image: &[u8], g: Shape, i: usize, units: &mut [u64], maps: &mut [u
         return BAD_CHUNK;
     }
     let k = w as usize;
-    place(maps, k);
+    place(maps, k / 64, k);
     let h = put_units(image, g, k, units);
     if h == 0 {
         return BAD_CHUNK;
@@ -122,38 +135,47 @@ fn put_claims(image: &[u8], g: Shape, i: usize, units: &mut [u64], maps: &mut [u
     if !size_fits(image, g, k, h) {
         return BAD_CHUNK;
     }
-    1 + h
+    h
 }
 
-// Whether the chunks are sound: then the sets, which begin empty, are left with what is free. No claim is looked up before it is put in: the sets have as
-// many members at the end as there were claims, unless something was claimed twice.
-pub(crate) fn survey(image: &[u8], g: Shape, units: &mut [u64], maps: &mut [u64]) -> bool
+// Whether the chunks are sound: then the sets, which begin empty and have just the words that N and M need, are left with what is free. What no chunk may
+// hold is in the sets from the start, and no claim is looked up before it is put in: at the end as many units are left as were not claimed, unless one was
+// claimed twice or may not be held.
+fn survey_words(image: &[u8], g: Shape, units: &mut [u64], maps: &mut [u64]) -> bool
     requires { ⌜ Shaped (now image) g ⌝ }
-    requires { ⌜ (now units ≡ replicate unitSetWords 0) × (now maps ≡ replicate mapSetWords 0) ⌝ }
-    ensures { λ r. ⌜ Surveyed (now (image .entry)) r (now (units .exit)) (now (maps .exit)) ⌝ }
+    requires { ⌜ (now units ≡ replicate (wordsFor (g .n)) 0) × (now maps ≡ replicate (wordsFor (g .m)) 0) ⌝ }
+    ensures { λ r. ⌜ Surveyed (now (image .entry)) r (wordsFor (g .n)) (wordsFor (g .m)) (now (units .exit)) (now (maps .exit)) ⌝ }
 {
     let c = g.c as usize;
     let m = g.m as usize;
     let n = g.n as usize;
     let low = g.r as usize;
-    let mut claims: usize = 0;
+    fill_outside(units, low, n);
+    fill_outside(maps, 0, m);
+    let mut held: usize = 0;
     let mut i: usize = 0;
     while i < c {
         let made = put_claims(image, g, i, units, maps);
         if made == BAD_CHUNK {
             return false;
         }
-        claims += made;
+        held += made;
         i += 1;
     }
-    let held = count_words(units, (n + 63) / 64);
-    let named = count_words(maps, (m + 63) / 64);
-    if claims != held + named {
-        return false;
-    }
-    complement(units, low, n);
-    complement(maps, 0, m);
-    true
+    invert(units);
+    invert(maps);
+    held + count(units) == n - low
+}
+
+// The same with sets for a volume of any size, of which the other words stay empty.
+pub(crate) fn survey(image: &[u8], g: Shape, units: &mut [u64], maps: &mut [u64]) -> bool
+    requires { ⌜ Shaped (now image) g ⌝ }
+    requires { ⌜ (now units ≡ replicate unitSetWords 0) × (now maps ≡ replicate mapSetWords 0) ⌝ }
+    ensures { λ r. ⌜ Surveyed (now (image .entry)) r unitSetWords mapSetWords (now (units .exit)) (now (maps .exit)) ⌝ }
+{
+    let n = words_for(g.n as usize);
+    let m = words_for(g.m as usize);
+    survey_words(image, g, &mut units[..n], &mut maps[..m])
 }
 
 // Whether the chunks are sound, where nobody asks what is free.

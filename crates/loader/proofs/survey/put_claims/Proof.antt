@@ -1,20 +1,18 @@
--- `loader::survey::put_claims` meets its contract: each return is one of the laws of Surveying on what the chunk claims.
-use borrow.Author.Tests.{not-true, not-false}
-use mathlib.Core.Path.{sym, ap, _∙_}
-use mathlib.Core.List.{List}
-use Prim.Native.Nat.{ℕ}
-use native.Mathlib.Omega.{arith}
-use lib.ListN.{length}
-use Rattle.bitset.specs.Bits.{inserted}
-use Rattle.bitset.proofs.BitSets.{length-bitSet, inserted-set}
-use Rattle.layout.specs.Layout.{isUnit, shapeOf}
-use Rattle.layout.specs.declared.Shape.{Shape}
-use Rattle.layout.specs.Shaped.{unitWordsOf}
-use Rattle.image.specs.Survey.{heldBelow, namedBelow}
-use Rattle.image.specs.Loading.{unitSetWords, mapSetWords}
-use Rattle.image.proofs.MapWords.{length-unitsIn}
+use Rattle.image.proofs.Surveying.{put-absent, put-high, put-empty, put-rest, put-size, put-named}
 use Rattle.image.proofs.Leading.{length-leading}
-use Rattle.image.proofs.Surveying.{put-absent, put-past, put-empty, put-rest, put-size, put-named}
+use Rattle.image.proofs.MapWords.{length-unitsIn}
+use Rattle.image.specs.Survey.{hasBit, unitsTaken, mapsTaken}
+use Rattle.layout.specs.Shaped.{unitWordsOf}
+use Rattle.layout.specs.declared.Shape.{Shape}
+use Rattle.layout.specs.Layout.{shapeOf}
+use Rattle.bitset.proofs.BitSets.{length-bitSet, inserted-set}
+use Rattle.bitset.specs.Bits.{inserted, wordsFor}
+use borrow.Author.Tests.{not-true, not-false}
+use lib.ListN.{length}
+use native.Mathlib.Omega.{arith}
+use Prim.Native.Nat.{ℕ}
+use mathlib.Core.List.{List}
+use mathlib.Core.Path.{refl, sym, ap, _∙_}
 use borrow.Author.Needs.{needs}
 use Rattle.loader.proofs.survey.put_claims.Statement.{statement}
 use Rattle.loader.proofs.survey.put_claims.Tie as tie
@@ -32,15 +30,16 @@ cast-m c = search needs
 returns-2 : tie.Need-returns-2
 returns-2 c = let a = c .before .before .before .before .before .before .before in
     let m = ap (λ (g : Shape). g .m) (a .pre .0 .same) in
-    put-past (a .args .image .now) (a .args .i) _ (c .before .before .before .link .ensures) _ _ (c .before .before .if1 .left) (omega arith)
+    put-high (a .args .image .now) (a .args .i) _ (c .before .before .before .link .ensures) _ _ (c .before .before .if1 .left) (omega arith)
 
 place-requires : tie.Need-place-requires
 place-requires c κs = let a = c .before .before .before .before .before .before .before .before in
-    omega (arith, ap length (a .pre .1 .1 .1) ∙ length-bitSet _ mapSetWords, a .pre .0 .limits .m-high, a .pre .0 .limits .c-high)
+    let m = ap (λ (g : Shape). g .m) (a .pre .0 .same) in
+    (refl, omega (arith, ap length (a .pre .1 .1 .1) ∙ length-bitSet _ (wordsFor (shapeOf (a .args .image .now) .m))))
 
 put-units-requires : tie.Need-put-units-requires
 put-units-requires c κs = let a = c .before .before .before .before .before .before .before .before .before .before .before .before in
-    (a .pre .0, (omega arith, ap length (a .pre .1 .1 .0) ∙ length-bitSet _ unitSetWords))
+    (a .pre .0, (omega arith, ap length (a .pre .1 .1 .0) ∙ length-bitSet _ (wordsFor (shapeOf (a .args .image .now) .n)) ∙ ap (λ (g : Shape). wordsFor (g .n)) (sym (a .pre .0 .same))))
 
 same-length : tie.Need-same-length
 same-length c = search needs
@@ -56,7 +55,7 @@ rest-absent-requires : tie.Need-rest-absent-requires
 rest-absent-requires c κs = let a = c .before .before .before .before .before .before .before .before .before .before .before .before .before .before .before .before in
     let s = a .args .image .now in
     let k = c .before .before .before .before .before .before .before .before .before .before .before .before .link .result in
-    let l = length-leading (isUnit (shapeOf s)) (unitWordsOf s k) in
+    let l = length-leading (hasBit (shapeOf s)) (unitWordsOf s k) in
     (a .pre .0, (omega arith, omega (arith, c .before .before .before .put-units .ensures .0, l, length-unitsIn s (a .args .g) k (a .pre .0))))
 
 same-length-3 : tie.Need-same-length-3
@@ -74,7 +73,7 @@ size-fits-requires : tie.Need-size-fits-requires
 size-fits-requires c κs = let a = c .before .before .before .before .before .before .before .before .before .before .before .before .before .before .before .before .before .before in
     let s = a .args .image .now in
     let k = c .before .before .before .before .before .before .before .before .before .before .before .before .before .before .link .result in
-    let l = length-leading (isUnit (shapeOf s)) (unitWordsOf s k) in
+    let l = length-leading (hasBit (shapeOf s)) (unitWordsOf s k) in
     let w = length-unitsIn s (a .args .g) k (a .pre .0) in
     (a .pre .0, (omega arith, omega arith, omega (arith, c .before .before .before .before .before .put-units .ensures .0)))
 
@@ -89,14 +88,6 @@ returns-5 c = let a = c .before .before .before .before .before .before .before 
     put-size (a .args .image .now) (a .args .i) _ (c .before .before .before .before .before .before .before .before .before .before .before .before .before .before .before .before .link .ensures) _ _ (c .before .before .before .before .before .before .before .before .before .before .before .before .before .before .before .if1 .left) _ (c .before .before .before .before .before .before .before .put-units .ensures .0) (c .before .before .before .before .if3 .left)
     (sym (c .before .size-fits .ensures) ∙ not-true _ (c .if5 .taken))
 
-add-result : tie.Need-add-result
-add-result c = let a = c .before .before .before .before .before .before .before .before .before .before .before .before .before .before .before .before .before .before .before .before in
-    let s = a .args .image .now in
-    let k = c .before .before .before .before .before .before .before .before .before .before .before .before .before .before .before .before .link .result in
-    let l = length-leading (isUnit (shapeOf s)) (unitWordsOf s k) in
-    let w = length-unitsIn s (a .args .g) k (a .pre .0) in
-    omega (arith, c .before .before .before .before .before .before .before .put-units .ensures .0, a .pre .0 .limits .p-high)
-
 same-length-7 : tie.Need-same-length-7
 same-length-7 c = search needs
 
@@ -107,11 +98,12 @@ returns-6 : tie.Need-returns-6
 returns-6 c = let a = c .before .before .before .before .before .before .before .before .before .before .before .before .before .before .before .before .before .before .before .before in
     let s = a .args .image .now in
     let i = a .args .i in
+    let g = ap (λ (g : Shape). wordsFor (g .n)) (a .pre .0 .same) in
     let m = ap (λ (g : Shape). g .m) (a .pre .0 .same) in
-    let named = c .before .before .before .before .before .before .before .before .before .before .before .place .ensures ∙ ap (λ (l : List ℕ). inserted l (c .before .before .before .before .before .before .before .before .before .before .before .before .before .before .before .before .link .result)) (a .pre .1 .1 .1) ∙ inserted-set (namedBelow s i) mapSetWords _ in
+    let named = c .before .before .before .before .before .before .before .before .before .before .before .place .ensures ∙ ap (λ (l : List ℕ). inserted l (c .before .before .before .before .before .before .before .before .before .before .before .before .before .before .before .before .link .result)) (a .pre .1 .1 .1) ∙ inserted-set (mapsTaken s i) (wordsFor (shapeOf s .m)) _ in
     put-named s i _ (c .before .before .before .before .before .before .before .before .before .before .before .before .before .before .before .before .link .ensures) _ _ (c .before .before .before .before .before .before .before .before .before .before .before .before .before .before .before .if1 .left) _ (c .before .before .before .before .before .before .before .put-units .ensures .0) (c .before .before .before .before .if3 .left) (omega arith)
     (sym (c .before .before .before .rest-absent .ensures) ∙ not-false _ (c .before .before .if4 .left)) (sym (c .before .size-fits .ensures) ∙ not-false _ (c .if5 .left))
-    (c .before .before .before .before .before .before .before .put-units .ensures .1 (heldBelow s i) (a .pre .1 .1 .0)) named
+    (rw g at (c .before .before .before .before .before .before .before .put-units .ensures .1 (unitsTaken s i)) (a .pre .1 .1 .0)) named
 
 pub put-claims-spec : {M : Type 1} → statement M
 put-claims-spec =
@@ -134,7 +126,6 @@ put-claims-spec =
     same-length-5
     same-length-6
     returns-5
-    add-result
     same-length-7
     same-length-8
     returns-6)
