@@ -1,6 +1,6 @@
 -- The members of a set of words are the numbers at which its test holds.
 use Prim.Native.Nat.{ℕ, _+_, _-_, _*_, _≤_, _<_}
-use mathlib.Core.Bool.{Bool, true, false}
+use mathlib.Core.Bool.{Bool, true}
 use mathlib.Core.List.{List}
 use mathlib.Core.Logic.{⊎-elim}
 use mathlib.Core.Path.{_≡_, ap, sym, _∙_, fun-ext}
@@ -27,27 +27,21 @@ members-bitSet f n =
     rw all (below-bitSet f n n (omega arith))
 
 -- numbers that are all below k are found below k
-found-below : (f : ℕ → Bool) (k n : ℕ) → ((u : ℕ) → k ≤ u → f u ≡ false) → k ≤ n → keep f (below n) ≡ keep f (below k)
-found-below f k n h l =
+found-below : (f : ℕ → Bool) (k n : ℕ) → ((u : ℕ) → f u ≡ true → u < k) → k ≤ n → keep f (below n) ≡ keep f (below k)
+found-below f k n only l =
     let all : n ≡ k + (n - k) = omega arith in
-    ap (λ (c : ℕ). keep f (below c)) all ∙ keep-short f 0 k (n - k) (λ u a. h u (omega arith))
+    ap (λ (c : ℕ). keep f (below c)) all ∙ keep-short f 0 k (n - k) (λ u a. is-false (f u) (λ e. let low = only u e in omega arith))
 
 -- a set whose numbers are all below k, which have a bit
-pub members-below : (f : ℕ → Bool) (k n : ℕ) → ((u : ℕ) → k ≤ u → f u ≡ false) → k ≤ 64 * n → members (bitSet f n) ≡ keep f (below k)
-members-below f k n h l = members-bitSet f n ∙ found-below f k (64 * n) h l
-
--- a set whose numbers are all below `top`, which have a bit in the first `end` words
-pub members-within : (f : ℕ → Bool) (n end top : ℕ) → end ≤ n → top ≤ 64 * end → ((u : ℕ) → f u ≡ true → u < top)
-    → membersBelow (bitSet f n) (64 * end) ≡ keep f (below top)
-members-within f n end top h l only =
-    below-bitSet f n end h ∙ found-below f top (64 * end) (λ u a. is-false (f u) (λ e. let low = only u e in omega arith)) l
+pub members-below : (f : ℕ → Bool) (k n : ℕ) → ((u : ℕ) → f u ≡ true → u < k) → k ≤ 64 * n → members (bitSet f n) ≡ keep f (below k)
+members-below f k n only l = members-bitSet f n ∙ found-below f k (64 * n) only l
 
 -- words whose members are all below `top`, which have a bit in the first `end` of them
 pub members-first : (ws : List ℕ) (end top : ℕ) → end ≤ length ws → top ≤ 64 * end → ((u : ℕ) → inSet ws u ≡ true → u < top)
     → membersBelow ws (64 * end) ≡ members ws
 unfolding rising
 members-first ws end top h l only =
-    sym (found-below (inSet ws) (64 * end) (64 * length ws - 0) (λ u a. is-false (inSet ws u) (λ e. let low = only u e in omega arith)) (omega arith))
+    sym (found-below (inSet ws) (64 * end) (64 * length ws - 0) (λ u e. let low = only u e in omega arith) (omega arith))
 
 -- a set all of whose numbers have a bit contains just these
 pub in-whole : (f : ℕ → Bool) (n : ℕ) → ((u : ℕ) → f u ≡ true → u < 64 * n) → inSet (bitSet f n) ≡ f

@@ -1,5 +1,5 @@
 -- The end of the one pass: free and claimed units are N-R in all exactly where no row of 4 to 6 holds, and then the sets hold what is free.
-use Prim.Native.Nat.{ℕ, _+_, _-_, _*_, _<_, _≤_}
+use Prim.Native.Nat.{ℕ, _+_, _-_, _*_, _<_}
 use mathlib.Core.Path.{_≡_, refl, ap, sym, subst, _∙_}
 use mathlib.Core.Bool.{Bool, true, false, not, _&&_, _||_, false≢true}
 use mathlib.Core.List.{List, [], _∷_, _++_}
@@ -247,13 +247,12 @@ module _ (s : List ℕ) (lim : Limits (shapeOf s)) (good : (i : ℕ) → i < sha
   units-are : after ≡ bitSet left (wordsFor (shapeOf s .n))
   units-are = left-set (isUnit (shapeOf s)) (claimed s) (wordsFor (shapeOf s .n)) us after eu au
 
-  left-high : (u : ℕ) → shapeOf s .n ≤ u → left u ≡ false
+  left-low : (u : ℕ) → left u ≡ true → u < shapeOf s .n
   unfolding without
-  left-high u h = is-false _ (λ e.
-      let b = unit-below (shapeOf s) u (and-left (isUnit (shapeOf s) u) (not (member u (claimed s))) e) in absurd (omega arith))
+  left-low u e = unit-below (shapeOf s) u (and-left (isUnit (shapeOf s) u) (not (member u (claimed s))) e)
 
   free-count : free ≡ length (keep left (below (shapeOf s .n)))
-  free-count = ef ∙ ap length (ap members units-are ∙ members-below left (shapeOf s .n) (wordsFor (shapeOf s .n)) left-high (omega arith))
+  free-count = ef ∙ ap length (ap members units-are ∙ members-below left (shapeOf s .n) (wordsFor (shapeOf s .n)) left-low (omega arith))
 
   module _ (e : held + free ≡ shapeOf s .n - shapeOf s .r) where
     all-claimed : length (claimed s) + length (keep left (below (shapeOf s .n))) ≡ shapeOf s .n - shapeOf s .r

@@ -39,6 +39,10 @@ module _ (s : List ℕ) where
   unfolding unlinksBelow badBelow
   found-high i h = rw (le-ltb i (shapeOf s .c) h)
 
+  found-within : (i : ℕ) → unlinksBelow s (shapeOf s .c) i ≡ true → i < shapeOf s .c
+  found-within i p =
+      ltb-true i (shapeOf s .c) (is-true (ltb i (shapeOf s .c)) (λ q. contradict p (found-high i (ltb-false i (shapeOf s .c) q))))
+
 pub unlinked-few : (s : List ℕ) → length (unlinked s) ≤ shapeOf s .c
 unfolding unlinked
 unlinked-few s = omega (arith, keep-few (unlinks s) (below (shapeOf s .c)), length-from 0 (shapeOf s .c))
@@ -54,7 +58,7 @@ module _ (s : List ℕ) (g : Shape) (h : Shaped s g) (ws : List ℕ) (e : ws ≡
   unfolding unlinked
   found-unlinked =
       ap members found
-      ∙ members-below (unlinksBelow s (shapeOf s .c)) (shapeOf s .c) chunkSetWords (found-high s) (omega (arith, same-c, h .limits .c-high))
+      ∙ members-below (unlinksBelow s (shapeOf s .c)) (shapeOf s .c) chunkSetWords (found-within s) (omega (arith, same-c, h .limits .c-high))
       ∙ keep-ext (unlinksBelow s (shapeOf s .c)) (unlinks s) (below (shapeOf s .c)) (λ i m. found-low s i (member-below i (shapeOf s .c) m))
 
   pub found-limit : limit ws ≡ 256
@@ -64,8 +68,8 @@ module _ (s : List ℕ) (g : Shape) (h : Shaped s g) (ws : List ℕ) (e : ws ≡
   pub found-entry : (u : ℕ) → inSet ws u ≡ true → 8 * u + 8 ≤ length s
   found-entry u m =
       let f = unlinksBelow s (shapeOf s .c) in
-      let low : (i : ℕ) → f i ≡ true → i < shapeOf s .c = λ i p. ltb-true i (shapeOf s .c) (is-true (ltb i (shapeOf s .c)) (λ q. contradict p (found-high s i (ltb-false i (shapeOf s .c) q)))) in
-      let b = low u (sym (ap (λ (t : ℕ → Bool). t u) (ap inSet found ∙ in-whole f chunkSetWords (λ i p. omega (arith, low i p, same-c, h .limits .c-high)))) ∙ m) in
+      let whole = in-whole f chunkSetWords (λ i p. omega (arith, found-within s i p, same-c, h .limits .c-high)) in
+      let b = found-within s u (sym (ap (λ (t : ℕ → Bool). t u) (ap inSet found ∙ whole)) ∙ m) in
       omega (arith, same-c, h .size)
 
 -- ---- what `repair_in` owes, where the code has the number n of the chunks found
