@@ -125,12 +125,7 @@ refused-into s r us ms e = record { right = e; units-left = λ g h. absurd (not-
     not-sound : (g : Shape) → OutcomeRefused r ≡ Sound g → ⊥
     not-sound g h = let z : _≡_ {A = ℕ} 0 1 = cc in omega arith
 
--- ---- what `refusal` owes
+-- ---- what `refusal` owes: the pass said no, so that the scans find a refusal
 
-module _ (s : List ℕ) (v : Verdict) (e : v ≡ chunkVerdict s) where
-  pub judged-refused : (r : Refusal) → v ≡ Refused r → chunkVerdict s ≡ Refused r
-  judged-refused r h = sym e ∙ h
-
-  -- the pass said no, so that the scans find a refusal
-  pub judged-some : passed (chunkVerdict s) ≡ false → v ≡ Passed → ⊥
-  judged-some n h = true≢false (ap passed (sym h ∙ e) ∙ n)
+pub judged-some : (s : List ℕ) (v : Verdict) → v ≡ chunkVerdict s → passed (chunkVerdict s) ≡ false → v ≡ Passed → ⊥
+judged-some s v e n h = true≢false (ap passed (sym h ∙ e) ∙ n)

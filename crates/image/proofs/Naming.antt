@@ -1,5 +1,5 @@
 -- The maps that chunks name: each chunk one or none, all below M where row 4 does not hold, and each once in a sound image.
-use Prim.Native.Nat.{ℕ, _*_, _<_, _≤_}
+use Prim.Native.Nat.{ℕ, _<_, _≤_}
 use mathlib.Core.Path.{_≡_, ap, sym, _∙_}
 use mathlib.Core.Bool.{true}
 use mathlib.Core.List.{List, [], _∷_}
@@ -17,7 +17,6 @@ use Rattle.search.proofs.Joined.{member-joined, distinct-joined}
 use Rattle.layout.specs.Layout.{X, shapeOf, linkOf}
 use Rattle.image.specs.Soundness.{mapped}
 use Rattle.image.specs.Verdicts.{goodLink}
-use Rattle.image.specs.Loading.{mapSetWords}
 use Rattle.image.specs.Survey.{namesOf}
 use Rattle.image.proofs.Chunks.{mapped-named, unmapped-absent, named-below, clash-links}
 use Rattle.image.proofs.SoundLaws.{ChunksTested}
@@ -79,7 +78,7 @@ module _ (s : List ℕ) where
       absurd (clash-links s j k (z .apart j k h (omega arith)) (p .0) (q .0) (p .1 ∙ sym (q .1))))))
 
   -- a map is named where an entry says its number
-  pub named-any : (y : ℕ) → y < 64 * mapSetWords → member y names ≡ any (λ i. eqb (linkOf s i) y) (below (shapeOf s .c))
+  pub named-any : (y : ℕ) → (y ≡ X → ⊥) → member y names ≡ any (λ i. eqb (linkOf s i) y) (below (shapeOf s .c))
   named-any y h =
       member-joined (namesOf s) y (below (shapeOf s .c))
-      ∙ any-ext (λ i. member y (namesOf s i)) (λ i. eqb (linkOf s i) y) (λ i. name-test s i y (λ x. absurd (omega arith))) (below (shapeOf s .c))
+      ∙ any-ext (λ i. member y (namesOf s i)) (λ i. eqb (linkOf s i) y) (λ i. name-test s i y h) (below (shapeOf s .c))

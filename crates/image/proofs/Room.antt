@@ -81,7 +81,7 @@ module _ (s : List ℕ) (e : fitting s ≡ true) where
   unfolding freeMaps freeMap without
   keep-unnamed = keep-ext (without (λ u. true) (names s)) (freeMap s) (below (shapeOf s .m)) (λ k h.
       let low = member-below k (shapeOf s .m) h in
-      rw (lt-ltb k (shapeOf s .m) low, named-any s k (omega (arith, maps-few (shapeOf s) (fitting-limits s e)))))
+      rw (lt-ltb k (shapeOf s .m) low, named-any s k (λ x. absurd (omega (arith, maps-few (shapeOf s) (fitting-limits s e))))))
 
   -- a fitting image has a free map
   pub some-map-free : 1 ≤ length (freeMaps s)
@@ -147,7 +147,7 @@ units-free s h = let a = free-units-count s in let b = held-high s in omega arit
 -- ---- a sound image: just so many
 
 -- no unit is held twice
-pub units-once : (s : List ℕ) → ChunksTested s → distinct (heldUnits s) ≡ true
+units-once : (s : List ℕ) → ChunksTested s → distinct (heldUnits s) ≡ true
 unfolding heldUnits
 units-once s z =
     distinct-joined (unitsOf s) 0 (shapeOf s .c) (λ j h. z .single j (omega arith)) (λ j k h l. clash-units s j k (z .apart j k h (omega arith)))
@@ -156,19 +156,16 @@ pub distinct-held : (s : List ℕ) → Tested s → distinct (heldUnits s) ≡ t
 distinct-held s z = units-once s (tested-chunks z)
 
 -- each unit is free or held, and none is both
-pub chunks-units : (s : List ℕ) → ChunksTested s → length (keep (isUnit (shapeOf s)) (below (shapeOf s .n))) ≡ length (freeUnits s) + length (heldUnits s)
-chunks-units s z =
+pub free-and-held-units : (s : List ℕ) → ChunksTested s → shapeOf s .r ≤ shapeOf s .n
+    → length (freeUnits s) + length (heldUnits s) ≡ shapeOf s .n - shapeOf s .r
+free-and-held-units s z h =
     let n = shapeOf s .n in
     let a = left-exactly (isUnit (shapeOf s)) (below n) (heldUnits s) (distinct-from 0 n) (units-once s z) (λ u m.
     (below-member u n (held-below s u m), held-unit s u m)) in
-    let e = ap length (keep-unheld s) in
-    omega arith
+    omega (arith, ap length (keep-unheld s), units-many (shapeOf s) h)
 
 pub free-and-held : (s : List ℕ) → Tested s → length (freeUnits s) + length (heldUnits s) ≡ shapeOf s .n - shapeOf s .r
-free-and-held s z =
-    let a = chunks-units s (tested-chunks z) in
-    let k = units-many (shapeOf s) (omega (arith, fitting-limits s (z .fitting) .r-high)) in
-    omega arith
+free-and-held s z = free-and-held-units s (tested-chunks z) (omega (arith, fitting-limits s (z .fitting) .r-high))
 
 -- each mapped chunk names a map of its own
 pub free-and-named : (s : List ℕ) → Tested s → length (freeMaps s) + length (keep (mapped s) (below (shapeOf s .c))) ≡ shapeOf s .m

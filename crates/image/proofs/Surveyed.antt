@@ -33,13 +33,13 @@ use Rattle.image.specs.Verdicts.{goodLink, goodMap, clash, chunkVerdict,
 use Rattle.image.specs.Free.{freeUnit, freeMap, freeUnits, heldUnits}
 use Rattle.image.specs.Loading.{unitSetWords, mapSetWords}
 use Rattle.image.specs.Claims.{heldIn}
-use Rattle.image.specs.Survey.{hasBit, claimedIn, claimsOf, formBy, claimsForm, goodClaims, taken, unitsTaken, mapsTaken, passed, Surveyed}
+use Rattle.image.specs.Survey.{hasBit, claimedIn, claimedBy, formBy, passableMap, passable, taken, unitsTaken, mapsTaken, passed, Surveyed}
 use Rattle.image.proofs.Leading.{leading-true, leading-false, leading-at, length-leading}
 use Rattle.image.proofs.Chunks.{map-form, form-by-units, named-map, absent-map, mapped-named, unmapped-absent, units-mapped, units-unmapped, good-some}
 use Rattle.image.proofs.SoundLaws.{ChunksTested, chunks-tested, chunks-passed}
 use Rattle.image.proofs.Naming.{names, named-any}
 use Rattle.image.proofs.Surveying.{claims-absent, claims-named, form-absent, form-named}
-use Rattle.image.proofs.Room.{freeUnit-below, freeMap-below, units-many, chunks-units, free-unheld}
+use Rattle.image.proofs.Room.{freeUnit-below, freeMap-below, units-many, free-and-held-units, free-unheld}
 
 -- ---- what is claimed, and what is held
 
@@ -66,51 +66,45 @@ module _ (s : List ℕ) where
   absent-no-bit l = let n = units-high (shapeOf s) l in le-ltb X (64 * wordsFor (shapeOf s .n)) (omega arith)
 
   module _ (i : ℕ) where
-    claims-mapped : mapped s i ≡ true → claimsOf s i ≡ claimedIn s (linkOf s i)
-    claims-mapped m = claims-named s i (mapped-named s i m)
-
-    claims-unmapped : mapped s i ≡ false → claimsOf s i ≡ []
-    claims-unmapped m = claims-absent s i (unmapped-absent s i m)
-
     -- a chunk that claims units alone holds what it claims, and the form of its map is that of row 5
-    module _ (only : (u : ℕ) → member u (claimsOf s i) ≡ true → isUnit (shapeOf s) u ≡ true) where
+    module _ (only : (u : ℕ) → member u (claimedBy s i) ≡ true → isUnit (shapeOf s) u ≡ true) where
       leads : mapped s i ≡ true → leading (isUnit (shapeOf s)) (unitWordsOf s (linkOf s i)) ≡ claimedIn s (linkOf s i)
       leads m = leading-same (isUnit (shapeOf s)) (hasBit (shapeOf s)) unit-has-bit (unitWordsOf s (linkOf s i)) (λ u h.
-          only u (ap (member u) (claims-mapped m) ∙ h))
+          only u (ap (member u) (claims-named s i (mapped-named s i m)) ∙ h))
 
-      holds-claims : unitsOf s i ≡ claimsOf s i
-      holds-claims = ⊎-elim (λ m. units-mapped s i m ∙ leads m ∙ sym (claims-mapped m))
-          (λ m. units-unmapped s i m ∙ sym (claims-unmapped m)) (either (mapped s i))
+      holds-claims : unitsOf s i ≡ claimedBy s i
+      holds-claims = ⊎-elim (λ m. units-mapped s i m ∙ leads m ∙ sym (claims-named s i (mapped-named s i m)))
+          (λ m. units-unmapped s i m ∙ sym (claims-absent s i (unmapped-absent s i m))) (either (mapped s i))
 
       form-same : mapped s i ≡ true → formBy (isUnit (shapeOf s)) (shapeOf s) (mapOf s (linkOf s i)) ≡ formBy (hasBit (shapeOf s)) (shapeOf s) (mapOf s (linkOf s i))
       unfolding formBy wellFormed
       form-same m = rw (leads m)
 
-      good-same : goodMap s i ≡ claimsForm s i
+      good-same : goodMap s i ≡ passableMap s i
       good-same = ⊎-elim
           (λ m. let n = mapped-named s i m in
           named-map s i n ∙ form-by-units (shapeOf s) (mapOf s (linkOf s i)) ∙ form-same m ∙ sym (form-named s i n))
           (λ m. let x = unmapped-absent s i m in absent-map s i x ∙ sym (form-absent s i x)) (either (mapped s i))
 
     -- and so does one whose map has the form of row 5: past its units it has X alone, which has no bit
-    claims-units : Limits (shapeOf s) → goodMap s i ≡ true → (u : ℕ) → member u (claimsOf s i) ≡ true → isUnit (shapeOf s) u ≡ true
+    claims-units : Limits (shapeOf s) → goodMap s i ≡ true → (u : ℕ) → member u (claimedBy s i) ≡ true → isUnit (shapeOf s) u ≡ true
     claims-units lim good u h = ⊎-elim
         (λ m.
         let ws = unitWordsOf s (linkOf s i) in
         let o = map-form (shapeOf s) (mapOf s (linkOf s i)) (sym (named-map s i (mapped-named s i m)) ∙ good) .units in
         let k = length (leading (isUnit (shapeOf s)) ws) in
-        let r = member-place u (claimedIn s (linkOf s i)) (sym (ap (member u) (claims-mapped m)) ∙ h) in
+        let r = member-place u (claimedIn s (linkOf s i)) (sym (ap (member u) (claims-named s i (mapped-named s i m))) ∙ h) in
         let a = leading-at (hasBit (shapeOf s)) ws (r .0) (r .1) in
         let e : getD ws (r .0) 0 ≡ u = sym (a .0) ∙ r .2 in
         ⊎-elim (λ q. ap (isUnit (shapeOf s)) (sym e) ∙ o .units (r .0) (ltb-true (r .0) k q))
         (λ q. contradict (a .1) (ap (hasBit (shapeOf s)) (o .rest (r .0) (ltb-false (r .0) k q) (omega (arith, r .1, length-leading (hasBit (shapeOf s)) ws))) ∙ absent-no-bit lim))
         (either (ltb (r .0) k)))
-        (λ m. contradict (sym (ap (member u) (claims-unmapped m)) ∙ h) (member-nil u))
+        (λ m. contradict (sym (ap (member u) (claims-absent s i (unmapped-absent s i m))) ∙ h) (member-nil u))
         (either (mapped s i))
 
--- ---- nothing is held twice exactly where no two chunks clash and none has a unit twice
+-- ---- where nothing is held twice, no two chunks clash and none has a unit twice
 
-module _ (s : List ℕ) (d : distinct (heldUnits s) ≡ true) (maps : (i : ℕ) → i < shapeOf s .c → goodMap s i ≡ true) where
+module _ (s : List ℕ) (d : distinct (heldUnits s) ≡ true) where
   once : (i : ℕ) → i < shapeOf s .c → distinct (unitsOf s i) ≡ true
   unfolding heldUnits
   once i h = is-true (distinct (unitsOf s i)) (λ e.
@@ -124,22 +118,22 @@ module _ (s : List ℕ) (d : distinct (heldUnits s) ≡ true) (maps : (i : ℕ) 
         contradict d (repeated-twice u (heldUnits s) (repeated-in-two (unitsOf s) u (shapeOf s .c) i j h l m k)))
 
     -- who names another's map holds its units, of which there is one at least
-    other-map : mapped s i ≡ true → mapped s j ≡ true → eqb (linkOf s i) (linkOf s j) ≡ false
-    other-map a b = is-false (eqb (linkOf s i) (linkOf s j)) (λ e.
+    other-map : goodMap s i ≡ true → mapped s i ≡ true → mapped s j ≡ true → eqb (linkOf s i) (linkOf s j) ≡ false
+    other-map f a b = is-false (eqb (linkOf s i) (linkOf s j)) (λ e.
         let u = getD (unitsOf s i) 0 0 in
-        let m = member-getD (unitsOf s i) 0 (good-some s i a (maps i (omega arith))) in
+        let m = member-getD (unitsOf s i) 0 (good-some s i a f) in
         let q : unitsOf s i ≡ unitsOf s j =
         units-mapped s i a ∙ ap (heldIn s) (eqb-true (linkOf s i) (linkOf s j) e) ∙ sym (units-mapped s j b) in
         contradict (sym (ap (member u) q) ∙ m) (one-holder u m))
 
-    no-clash : clash s i j ≡ false
+    no-clash : goodMap s i ≡ true → clash s i j ≡ false
     unfolding clash
-    no-clash = is-false _ (λ e.
+    no-clash f = is-false _ (λ e.
         let both = mapped s i && mapped s j in
         let apart = disjoint (unitsOf s i) (unitsOf s j) in
         let rest = eqb (linkOf s i) (linkOf s j) || not apart in
         let m = and-left both rest e in
-        ⊎-elim (λ q. contradict q (other-map (and-left (mapped s i) (mapped s j) m) (and-right (mapped s i) (mapped s j) m)))
+        ⊎-elim (λ q. contradict q (other-map f (and-left (mapped s i) (mapped s j) m) (and-right (mapped s i) (mapped s j) m)))
         (λ q. contradict q (ap not (disjoint-intro (unitsOf s i) (unitsOf s j) one-holder)))
         (or-cases (eqb (linkOf s i) (linkOf s j)) (not apart) (and-right both rest e)))
 
@@ -147,23 +141,20 @@ module _ (s : List ℕ) (d : distinct (heldUnits s) ≡ true) (maps : (i : ℕ) 
 
 -- what all chunks claim
 abbrev claimed : List ℕ → List ℕ
-claimed s = joined (claimsOf s) (below (shapeOf s .c))
+claimed s = joined (claimedBy s) (below (shapeOf s .c))
 
 module _ (s : List ℕ) (lim : Limits (shapeOf s)) where
-  held-claimed : ((i : ℕ) → i < shapeOf s .c → unitsOf s i ≡ claimsOf s i) → heldUnits s ≡ claimed s
+  held-claimed : ((i : ℕ) → i < shapeOf s .c → unitsOf s i ≡ claimedBy s i) → heldUnits s ≡ claimed s
   unfolding heldUnits
-  held-claimed h = joined-ext (unitsOf s) (claimsOf s) (shapeOf s .c) h
-
-  many : length (keep (isUnit (shapeOf s)) (below (shapeOf s .n))) ≡ shapeOf s .n - shapeOf s .r
-  many = units-many (shapeOf s) (omega (arith, lim .r-high))
+  held-claimed h = joined-ext (unitsOf s) (claimedBy s) (shapeOf s .c) h
 
   module _ (z : ChunksTested s) where
-    passed-holds : (i : ℕ) → i < shapeOf s .c → unitsOf s i ≡ claimsOf s i
+    passed-holds : (i : ℕ) → i < shapeOf s .c → unitsOf s i ≡ claimedBy s i
     passed-holds i h = holds-claims s i (claims-units s i lim (z .maps i h))
 
-    pub passed-claims : (i : ℕ) → i < shapeOf s .c → goodClaims s i ≡ true
+    passed-claims : (i : ℕ) → i < shapeOf s .c → passable s i ≡ true
     passed-claims i h =
-        and-intro (goodLink s i) (claimsForm s i) (z .links i h) (sym (good-same s i (claims-units s i lim (z .maps i h))) ∙ z .maps i h)
+        and-intro (goodLink s i) (passableMap s i) (z .links i h) (sym (good-same s i (claims-units s i lim (z .maps i h))) ∙ z .maps i h)
 
     passed-free : keep (without (isUnit (shapeOf s)) (claimed s)) (below (shapeOf s .n)) ≡ freeUnits s
     unfolding freeUnits
@@ -172,19 +163,19 @@ module _ (s : List ℕ) (lim : Limits (shapeOf s)) where
 
     passed-counted : length (claimed s) + length (keep (without (isUnit (shapeOf s)) (claimed s)) (below (shapeOf s .n))) ≡ shapeOf s .n - shapeOf s .r
     passed-counted =
-        omega (arith, many, chunks-units s z, ap length passed-free, ap length (held-claimed passed-holds))
+        omega (arith, free-and-held-units s z (omega (arith, lim .r-high)), ap length passed-free, ap length (held-claimed passed-holds))
 
-  module _ (good : (i : ℕ) → i < shapeOf s .c → goodClaims s i ≡ true)
+  module _ (good : (i : ℕ) → i < shapeOf s .c → passable s i ≡ true)
       (e : length (claimed s) + length (keep (without (isUnit (shapeOf s)) (claimed s)) (below (shapeOf s .n))) ≡ shapeOf s .n - shapeOf s .r) where
     counted : (distinct (claimed s) ≡ true) × ((u : ℕ) → member u (claimed s) ≡ true → (member u (below (shapeOf s .n)) ≡ true) × (isUnit (shapeOf s) u ≡ true))
-    counted = left-counted (isUnit (shapeOf s)) (below (shapeOf s .n)) (claimed s) (distinct-from 0 (shapeOf s .n)) (omega (arith, many))
+    counted = left-counted (isUnit (shapeOf s)) (below (shapeOf s .n)) (claimed s) (distinct-from 0 (shapeOf s .n)) (omega (arith, units-many (shapeOf s) (omega (arith, lim .r-high))))
 
-    only-units : (i : ℕ) → i < shapeOf s .c → (u : ℕ) → member u (claimsOf s i) ≡ true → isUnit (shapeOf s) u ≡ true
+    only-units : (i : ℕ) → i < shapeOf s .c → (u : ℕ) → member u (claimedBy s i) ≡ true → isUnit (shapeOf s) u ≡ true
     only-units i h u m =
-        counted .1 u (member-joined (claimsOf s) u (below (shapeOf s .c)) ∙ any-below-intro (λ j. member u (claimsOf s j)) (shapeOf s .c) i h m) .1
+        counted .1 u (member-joined (claimedBy s) u (below (shapeOf s .c)) ∙ any-below-intro (λ j. member u (claimedBy s j)) (shapeOf s .c) i h m) .1
 
     counted-maps : (i : ℕ) → i < shapeOf s .c → goodMap s i ≡ true
-    counted-maps i h = good-same s i (only-units i h) ∙ and-right (goodLink s i) (claimsForm s i) (good i h)
+    counted-maps i h = good-same s i (only-units i h) ∙ and-right (goodLink s i) (passableMap s i) (good i h)
 
     counted-held : heldUnits s ≡ claimed s
     counted-held = held-claimed (λ i h. holds-claims s i (only-units i h))
@@ -193,13 +184,13 @@ module _ (s : List ℕ) (lim : Limits (shapeOf s)) where
     counted-tested =
         let d : distinct (heldUnits s) ≡ true = ap distinct counted-held ∙ counted .0 in
         record {
-          links = λ i h. and-left (goodLink s i) (claimsForm s i) (good i h);
+          links = λ i h. and-left (goodLink s i) (passableMap s i) (good i h);
           maps = counted-maps;
-          apart = no-clash s d counted-maps;
-          single = once s d counted-maps;
+          apart = λ i j h l. no-clash s d i j h l (counted-maps i (omega arith));
+          single = once s d;
         }
 
--- ---- what `survey` owes at its returns
+-- ---- what `survey_words` owes at its returns, and `survey`
 
 passed-no : (v : Verdict) → (v ≡ Passed → ⊥) → false ≡ passed v
 passed-no Passed n = absurd (n refl)
@@ -212,8 +203,8 @@ passed-yes (Refused r) e = absurd (false≢true e)
 limits-said : (s : List ℕ) (g : Shape) → Shaped s g → Limits (shapeOf s)
 limits-said s g h = subst Limits (h .same) (h .limits)
 
--- a chunk is not good: a refusal holds, and nothing is said of the sets
-pub survey-bad : (s : List ℕ) (g : Shape) → Shaped s g → (n m : ℕ) (us ms : List ℕ) (i : ℕ) → i < g .c → goodClaims s i ≡ false
+-- a chunk is not passable: a row holds, and nothing is said of the sets
+pub survey-bad : (s : List ℕ) (g : Shape) → Shaped s g → (n m : ℕ) (us ms : List ℕ) (i : ℕ) → i < g .c → passable s i ≡ false
     → Surveyed s false n m us ms
 survey-bad s g h n m us ms i l b =
     let c = ap (λ (q : Shape). q .c) (h .same) in
@@ -235,8 +226,8 @@ left-set f xs n set after e a =
     a ∙ ap (λ (l : List ℕ). bitSet (λ u. not (inSet l u)) (length l)) e ∙ inverted-set (taken f xs) n
     ∙ bitSet-ext _ _ n (λ y h. left-cell (f y) (member y xs))
 
--- all chunks are good: the sets as they were then, what they were turned into, and how many members the units' set has
-module _ (s : List ℕ) (lim : Limits (shapeOf s)) (good : (i : ℕ) → i < shapeOf s .c → goodClaims s i ≡ true)
+-- all chunks are passable: the sets as they were then, what they were turned into, and how many members the units' set has
+module _ (s : List ℕ) (lim : Limits (shapeOf s)) (good : (i : ℕ) → i < shapeOf s .c → passable s i ≡ true)
     (us ms after rest : List ℕ)
     (eu : us ≡ bitSet (unitsTaken s (shapeOf s .c)) (wordsFor (shapeOf s .n))) (au : after ≡ bitSet (λ u. not (inSet us u)) (length us))
     (em : ms ≡ bitSet (mapsTaken s (shapeOf s .c)) (wordsFor (shapeOf s .m))) (am : rest ≡ bitSet (λ u. not (inSet ms u)) (length ms))
@@ -266,7 +257,7 @@ module _ (s : List ℕ) (lim : Limits (shapeOf s)) (good : (i : ℕ) → i < sha
     unfolding freeMap without
     free-maps =
         left-set (λ k. ltb k (shapeOf s .m)) (names s) (wordsFor (shapeOf s .m)) ms rest em am
-        ∙ bitSet-ext _ _ (wordsFor (shapeOf s .m)) (λ y h. rw (named-any s y (omega (arith, maps-few (shapeOf s) lim))))
+        ∙ bitSet-ext _ _ (wordsFor (shapeOf s .m)) (λ y h. rw (named-any s y (λ x. absurd (omega (arith, maps-few (shapeOf s) lim)))))
 
   counted-right : eqb (held + free) (shapeOf s .n - shapeOf s .r) ≡ passed (chunkVerdict s)
   counted-right = same (eqb (held + free) (shapeOf s .n - shapeOf s .r)) (passed (chunkVerdict s))
@@ -277,10 +268,10 @@ module _ (s : List ℕ) (lim : Limits (shapeOf s)) (good : (i : ℕ) → i < sha
   survey-told = record { right = counted-right; units-left = λ t. free-units (eqb-true _ _ t); maps-left = λ t. free-maps (eqb-true _ _ t) }
 
 -- the same where the code has the shape as g, and went through j chunks
-pub survey-done : (s : List ℕ) (g : Shape) → Shaped s g → (j : ℕ) → j ≡ g .c → ((i : ℕ) → i < j → goodClaims s i ≡ true) → (us ms after rest : List ℕ)
+pub survey-done : (s : List ℕ) (g : Shape) → Shaped s g → (j : ℕ) → j ≡ g .c → ((i : ℕ) → i < j → passable s i ≡ true) → (us ms after rest : List ℕ)
     → us ≡ bitSet (unitsTaken s j) (wordsFor (shapeOf s .n)) → after ≡ bitSet (λ u. not (inSet us u)) (length us)
     → ms ≡ bitSet (mapsTaken s j) (wordsFor (shapeOf s .m)) → rest ≡ bitSet (λ u. not (inSet ms u)) (length ms)
-    → (held free : ℕ) → held ≡ length (joined (claimsOf s) (below j)) → free ≡ length (members after)
+    → (held free : ℕ) → held ≡ length (joined (claimedBy s) (below j)) → free ≡ length (members after)
     → Surveyed s (eqb (held + free) (g .n - g .r)) (wordsFor (g .n)) (wordsFor (g .m)) after rest
 survey-done s g h j whole good us ms after rest eu au em am held free eh ef =
     let c : j ≡ shapeOf s .c = whole ∙ ap (λ (q : Shape). q .c) (h .same) in
@@ -288,7 +279,7 @@ survey-done s g h j whole good us ms after rest eu au em am held free eh ef =
     (survey-told s (limits-said s g h) (λ i l. good i (omega arith)) us ms after rest
     (eu ∙ ap (λ (i : ℕ). bitSet (unitsTaken s i) (wordsFor (shapeOf s .n))) c) au
     (em ∙ ap (λ (i : ℕ). bitSet (mapsTaken s i) (wordsFor (shapeOf s .m))) c) am
-    held free (eh ∙ ap (λ (i : ℕ). length (joined (claimsOf s) (below i))) c) ef)
+    held free (eh ∙ ap (λ (i : ℕ). length (joined (claimedBy s) (below i))) c) ef)
 
 -- where the sets are the first words of empty ones: n and m of them
 pub survey-over : (s : List ℕ) (g : Shape) → Shaped s g → (n m : ℕ) → n ≡ wordsFor (g .n) → m ≡ wordsFor (g .m) → (ok : Bool) (us ms : List ℕ)

@@ -22,7 +22,7 @@ use Rattle.layout.specs.Layout.{X, maxChunkUnits, isUnit, shapeOf, linkOf}
 use Rattle.layout.specs.Shaped.{Shaped, mapOf, unitWordsOf}
 use Rattle.image.specs.Soundness.{leading, mapped}
 use Rattle.image.specs.Verdicts.{goodLink, sizeFits}
-use Rattle.image.specs.Survey.{hasBit, claimedIn, claimsOf, namesOf, formBy, claimsForm, goodClaims, badChunk, taken, unitsTaken, mapsTaken}
+use Rattle.image.specs.Survey.{hasBit, claimedIn, claimedBy, namesOf, formBy, passableMap, passable, badChunk, taken, unitsTaken, mapsTaken}
 use Rattle.image.proofs.Chunks.{form-empty, form-held, absent-link, named-link, length-unitWords, mapped-named, unmapped-absent}
 use Rattle.image.proofs.Leading.{leading-prefix, length-leading, leading-more, leading-stop, leading-end}
 use Rattle.image.proofs.MapWords.{length-unitsIn}
@@ -33,14 +33,14 @@ use Rattle.image.proofs.Naming.{names-absent, names-named}
 put-none : (f : ℕ → Bool) (n : ℕ) (set : List ℕ) → set ≡ bitSet f n → set ≡ bitSet (withAll f []) n
 put-none f n set e = e ∙ bitSet-ext _ _ n (λ y h. withAll-none f y)
 
--- the first j of them have been put in: so many more will be, and every set n words had before is this one now
+-- the first j of them have been put in: how many more will be, and, of whatever set the n words had before, which set they have now
 pub record PutWords (s : List ℕ) (k n : ℕ) (before : List ℕ) (j : ℕ) (set : List ℕ) : Type 0 where
   pub size : length set ≡ n
   pub count : length (claimedIn s k) ≡ j + length (leading (hasBit (shapeOf s)) (drop j (unitWordsOf s k)))
   pub holds : (f : ℕ → Bool) → before ≡ bitSet f n → set ≡ bitSet (withAll f (take j (unitWordsOf s k))) n
 
 -- what `put_units` promises of its answer r and the set that it left
-abbrev pub AllPut : List ℕ → ℕ → ℕ → List ℕ → ℕ → List ℕ → Type 0
+abbrev AllPut : List ℕ → ℕ → ℕ → List ℕ → ℕ → List ℕ → Type 0
 AllPut s k n before r set = (r ≡ length (claimedIn s k)) × ((f : ℕ → Bool) → before ≡ bitSet f n → set ≡ bitSet (withAll f (claimedIn s k)) n)
 
 module _ (s : List ℕ) (k n : ℕ) (before : List ℕ) where
@@ -93,21 +93,21 @@ module _ (s : List ℕ) (k n : ℕ) (before : List ℕ) where
 -- ---- what one chunk claims
 
 module _ (s : List ℕ) (i : ℕ) where
-  pub claims-absent : linkOf s i ≡ X → claimsOf s i ≡ []
-  unfolding claimsOf
+  pub claims-absent : linkOf s i ≡ X → claimedBy s i ≡ []
+  unfolding claimedBy
   claims-absent e = rw (eq-eqb (linkOf s i) X e)
 
-  pub claims-named : (linkOf s i ≡ X → ⊥) → claimsOf s i ≡ claimedIn s (linkOf s i)
-  unfolding claimsOf
+  pub claims-named : (linkOf s i ≡ X → ⊥) → claimedBy s i ≡ claimedIn s (linkOf s i)
+  unfolding claimedBy
   claims-named e = rw (ne-eqb (linkOf s i) X e)
 
-  pub form-absent : linkOf s i ≡ X → claimsForm s i ≡ true
+  pub form-absent : linkOf s i ≡ X → passableMap s i ≡ true
   form-absent e = rw (eq-eqb (linkOf s i) X e)
 
-  pub form-named : (linkOf s i ≡ X → ⊥) → claimsForm s i ≡ formBy (hasBit (shapeOf s)) (shapeOf s) (mapOf s (linkOf s i))
+  pub form-named : (linkOf s i ≡ X → ⊥) → passableMap s i ≡ formBy (hasBit (shapeOf s)) (shapeOf s) (mapOf s (linkOf s i))
   form-named e = rw (ne-eqb (linkOf s i) X e)
 
-  length-claims : length (claimsOf s i) ≤ shapeOf s .p
+  length-claims : length (claimedBy s i) ≤ shapeOf s .p
   length-claims = ⊎-elim
       (λ m. let e = ap length (claims-named (mapped-named s i m)) in
       let l = length-leading (hasBit (shapeOf s)) (unitWordsOf s (linkOf s i)) in
@@ -127,7 +127,7 @@ pub units-start : (s : List ℕ) (g : Shape) (us : List ℕ) → g ≡ shapeOf s
     → us ≡ bitSet (unitsTaken s 0) (wordsFor (shapeOf s .n))
 unfolding isUnit
 units-start s g us q e =
-    start (isUnit (shapeOf s)) (claimsOf s) (wordsFor (shapeOf s .n)) us
+    start (isUnit (shapeOf s)) (claimedBy s) (wordsFor (shapeOf s .n)) us
     (e ∙ ap (λ (h : Shape). bitSet (λ u. not (leb (h .r) u && ltb u (h .n))) (wordsFor (h .n))) q)
 
 pub maps-start : (s : List ℕ) (g : Shape) (ms : List ℕ) → g ≡ shapeOf s → ms ≡ bitSet (λ u. not (leb 0 u && ltb u (g .m))) (wordsFor (g .m))
@@ -136,7 +136,7 @@ maps-start s g ms q e =
     start (λ k. ltb k (shapeOf s .m)) (namesOf s) (wordsFor (shapeOf s .m)) ms
     (e ∙ bitSet-ext _ _ (wordsFor (g .m)) (λ y h. rw (le-leb 0 y (omega arith))) ∙ ap (λ (h : Shape). bitSet (λ k. not (ltb k (h .m))) (wordsFor (h .m))) q)
 
-pub claims-none : (s : List ℕ) → 0 ≡ length (joined (claimsOf s) (below 0))
+pub claims-none : (s : List ℕ) → 0 ≡ length (joined (claimedBy s) (below 0))
 unfolding joined from
 claims-none s = refl
 
@@ -146,38 +146,38 @@ unfolding withAll
 taken-more f q i y =
     rw (add-one i, joined-last q i, member-append y (joined q (below i)) (q i)) (sym (or-assoc (not (f y)) (member y (joined q (below i))) (member y (q i))))
 
-claims-more : (s : List ℕ) (i : ℕ) → length (joined (claimsOf s) (below (i + 1))) ≡ length (joined (claimsOf s) (below i)) + length (claimsOf s i)
-claims-more s i = rw (add-one i, joined-last (claimsOf s) i) (length-append (joined (claimsOf s) (below i)) (claimsOf s i))
+claims-more : (s : List ℕ) (i : ℕ) → length (joined (claimedBy s) (below (i + 1))) ≡ length (joined (claimedBy s) (below i)) + length (claimedBy s i)
+claims-more s i = rw (add-one i, joined-last (claimedBy s) i) (length-append (joined (claimedBy s) (below i)) (claimedBy s i))
 
 -- ---- what `put_claims` owes at each of its returns, where the code has the chunk's entry k and the count h of what it claims
 
 -- its promises on chunk i, of the answer r and the sets it left
-abbrev pub Put : List ℕ → ℕ → ℕ → List ℕ → List ℕ → Type 0
+abbrev Put : List ℕ → ℕ → ℕ → List ℕ → List ℕ → Type 0
 Put s i r units maps =
-    (r ≡ cond (goodClaims s i) (length (claimsOf s i)) badChunk)
-    × ((goodClaims s i ≡ true → units ≡ bitSet (unitsTaken s (i + 1)) (wordsFor (shapeOf s .n)))
-    × (goodClaims s i ≡ true → maps ≡ bitSet (mapsTaken s (i + 1)) (wordsFor (shapeOf s .m))))
+    (r ≡ cond (passable s i) (length (claimedBy s i)) badChunk)
+    × ((passable s i ≡ true → units ≡ bitSet (unitsTaken s (i + 1)) (wordsFor (shapeOf s .n)))
+    × (passable s i ≡ true → maps ≡ bitSet (mapsTaken s (i + 1)) (wordsFor (shapeOf s .m))))
 
 -- so that answer is given of just the chunks that are not good
-module _ (s : List ℕ) (i r : ℕ) (e : r ≡ cond (goodClaims s i) (length (claimsOf s i)) badChunk) where
-  good-count : goodClaims s i ≡ true → r ≡ length (claimsOf s i)
-  good-count g = e ∙ cond-true (goodClaims s i) (length (claimsOf s i)) badChunk g
+module _ (s : List ℕ) (i r : ℕ) (e : r ≡ cond (passable s i) (length (claimedBy s i)) badChunk) where
+  good-count : passable s i ≡ true → r ≡ length (claimedBy s i)
+  good-count g = e ∙ cond-true (passable s i) (length (claimedBy s i)) badChunk g
 
-  pub put-few : goodClaims s i ≡ true → r ≤ shapeOf s .p
+  pub put-few : passable s i ≡ true → r ≤ shapeOf s .p
   put-few g = omega (arith, good-count g, length-claims s i)
 
-  pub put-bad : shapeOf s .p ≤ maxChunkUnits → r ≡ badChunk → goodClaims s i ≡ false
-  put-bad p b = is-false (goodClaims s i) (λ g. absurd (omega (arith, put-few g)))
+  pub put-bad : shapeOf s .p ≤ maxChunkUnits → r ≡ badChunk → passable s i ≡ false
+  put-bad p b = is-false (passable s i) (λ g. absurd (omega (arith, put-few g)))
 
-  pub put-good : (r ≡ badChunk → ⊥) → goodClaims s i ≡ true
-  put-good n = is-true (goodClaims s i) (λ g. n (e ∙ cond-false (goodClaims s i) (length (claimsOf s i)) badChunk g))
+  pub put-good : (r ≡ badChunk → ⊥) → passable s i ≡ true
+  put-good n = is-true (passable s i) (λ g. n (e ∙ cond-false (passable s i) (length (claimedBy s i)) badChunk g))
 
-  pub put-count : goodClaims s i ≡ true → length (joined (claimsOf s) (below (i + 1))) ≡ length (joined (claimsOf s) (below i)) + r
+  pub put-count : passable s i ≡ true → length (joined (claimedBy s) (below (i + 1))) ≡ length (joined (claimedBy s) (below i)) + r
   put-count g = claims-more s i ∙ omega (arith, good-count g)
 
-put-none-good : (s : List ℕ) (i : ℕ) (units maps : List ℕ) → goodClaims s i ≡ false → Put s i badChunk units maps
+put-none-good : (s : List ℕ) (i : ℕ) (units maps : List ℕ) → passable s i ≡ false → Put s i badChunk units maps
 put-none-good s i units maps h =
-    (sym (cond-false (goodClaims s i) (length (claimsOf s i)) badChunk h), (λ t. contradict t h, λ t. contradict t h))
+    (sym (cond-false (passable s i) (length (claimedBy s i)) badChunk h), (λ t. contradict t h, λ t. contradict t h))
 
 module _ (s : List ℕ) (i k : ℕ) (l : k ≡ linkOf s i) (units maps : List ℕ) where
   pub put-absent : k ≡ X → units ≡ bitSet (unitsTaken s i) (wordsFor (shapeOf s .n)) → maps ≡ bitSet (mapsTaken s i) (wordsFor (shapeOf s .m))
@@ -187,10 +187,10 @@ module _ (s : List ℕ) (i k : ℕ) (l : k ≡ linkOf s i) (units maps : List �
       let e : linkOf s i ≡ X = sym l ∙ x in
       let none = claims-absent s i e in
       let no-name = names-absent s i e in
-      let good = and-intro (goodLink s i) (claimsForm s i) (absent-link s i e) (form-absent s i e) in
-      let units-more = taken-more (isUnit (shapeOf s)) (claimsOf s) i in
+      let good = and-intro (goodLink s i) (passableMap s i) (absent-link s i e) (form-absent s i e) in
+      let units-more = taken-more (isUnit (shapeOf s)) (claimedBy s) i in
       let maps-more = taken-more (λ j. ltb j (shapeOf s .m)) (namesOf s) i in (
-        sym (cond-true (goodClaims s i) (length (claimsOf s i)) badChunk good ∙ ap length none),
+        sym (cond-true (passable s i) (length (claimedBy s i)) badChunk good ∙ ap length none),
         (
           λ t. u ∙ bitSet-ext _ _ (wordsFor (shapeOf s .n)) (λ y h. sym (units-more y ∙ rw none (or-false (unitsTaken s i y)))),
           λ t. m ∙ bitSet-ext _ _ (wordsFor (shapeOf s .m)) (λ y h. sym (maps-more y ∙ rw no-name (or-false (mapsTaken s i y)))),
@@ -203,20 +203,20 @@ module _ (s : List ℕ) (i k : ℕ) (l : k ≡ linkOf s i) (units maps : List �
 
     pub put-high : shapeOf s .m ≤ k → Put s i badChunk units maps
     put-high b = put-none-good s i units maps
-        (and-false-left (goodLink s i) (claimsForm s i) (named-link s i named ∙ le-ltb (linkOf s i) (shapeOf s .m) (omega arith)))
+        (and-false-left (goodLink s i) (passableMap s i) (named-link s i named ∙ le-ltb (linkOf s i) (shapeOf s .m) (omega arith)))
 
     module _ (h : ℕ) (e : h ≡ length (claimedIn s k)) where
-      bad-form : claimsForm s i ≡ false → Put s i badChunk units maps
-      bad-form b = put-none-good s i units maps (and-false-right (goodLink s i) (claimsForm s i) b)
+      bad-form : passableMap s i ≡ false → Put s i badChunk units maps
+      bad-form b = put-none-good s i units maps (and-false-right (goodLink s i) (passableMap s i) b)
 
-      form : claimsForm s i ≡ formBy (hasBit (shapeOf s)) (shapeOf s) (mapOf s k)
+      form : passableMap s i ≡ formBy (hasBit (shapeOf s)) (shapeOf s) (mapOf s k)
       form = form-named s i named ∙ ap (λ (j : ℕ). formBy (hasBit (shapeOf s)) (shapeOf s) (mapOf s j)) (sym l)
 
       pub put-empty : h ≡ 0 → Put s i badChunk units maps
       put-empty z = bad-form (form ∙ form-empty (hasBit (shapeOf s)) (shapeOf s) (mapOf s k) h e z)
 
       module _ (z : h ≡ 0 → ⊥) where
-        rest-size : claimsForm s i ≡ (all (eqb X) (drop h (unitWordsOf s k)) && sizeFits (shapeOf s) h (mapOf s k))
+        rest-size : passableMap s i ≡ (all (eqb X) (drop h (unitWordsOf s k)) && sizeFits (shapeOf s) h (mapOf s k))
         rest-size = form ∙ form-held (hasBit (shapeOf s)) (shapeOf s) (mapOf s k) h e z
 
         pub put-rest : all (eqb X) (drop h (unitWordsOf s k)) ≡ false → Put s i badChunk units maps
@@ -231,13 +231,13 @@ module _ (s : List ℕ) (i k : ℕ) (l : k ≡ linkOf s i) (units maps : List �
             → Put s i h units maps
         unfolding withAll member any
         put-named b a f u m =
-            let us : claimsOf s i ≡ claimedIn s k = claims-named s i named ∙ ap (claimedIn s) (sym l) in
+            let us : claimedBy s i ≡ claimedIn s k = claims-named s i named ∙ ap (claimedIn s) (sym l) in
             let ks : namesOf s i ≡ k ∷ [] = names-named s i named ∙ ap (λ (y : ℕ). y ∷ []) (sym l) in
-            let good = and-intro (goodLink s i) (claimsForm s i) (named-link s i named ∙ lt-ltb (linkOf s i) (shapeOf s .m) (omega arith))
+            let good = and-intro (goodLink s i) (passableMap s i) (named-link s i named ∙ lt-ltb (linkOf s i) (shapeOf s .m) (omega arith))
             (rest-size ∙ and-intro (all (eqb X) (drop h (unitWordsOf s k))) (sizeFits (shapeOf s) h (mapOf s k)) a f) in
-            let units-more = taken-more (isUnit (shapeOf s)) (claimsOf s) i in
+            let units-more = taken-more (isUnit (shapeOf s)) (claimedBy s) i in
             let maps-more = taken-more (λ j. ltb j (shapeOf s .m)) (namesOf s) i in (
-              sym (cond-true (goodClaims s i) (length (claimsOf s i)) badChunk good ∙ ap length us ∙ sym e),
+              sym (cond-true (passable s i) (length (claimedBy s i)) badChunk good ∙ ap length us ∙ sym e),
               (
                 λ t. u ∙ bitSet-ext _ _ (wordsFor (shapeOf s .n)) (λ y q. sym (units-more y ∙ rw us)),
                 λ t. m ∙ bitSet-ext _ _ (wordsFor (shapeOf s .m)) (λ y q. put-in (mapsTaken s i) k y ∙ sym (maps-more y ∙ rw (ks, or-false (eqb y k)))),

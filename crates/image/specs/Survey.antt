@@ -19,16 +19,17 @@ use Rattle.image.specs.Answers.{ifSound}
 
 -- ---- one chunk
 
--- u has a bit among those of the units: all that the pass asks of a word of a map. That none is reserved or from N on is found by counting.
+-- u has a bit in the words that N needs: all that the pass asks of a word of a map. A number below R, or from N on in the last word, has one too; counting
+-- finds it.
 unfoldable pub hasBit : Shape → ℕ → Bool
 hasBit g u = ltb u (64 * wordsFor (g .n))
 
--- the words of map k before the first that has no bit, and what chunk i claims
+-- the words of map k before the first that has no bit, and those that chunk i claims as units
 abbrev pub claimedIn : List ℕ → ℕ → List ℕ
 claimedIn s k = leading (hasBit (shapeOf s)) (unitWordsOf s k)
 
-unfoldable pub claimsOf : List ℕ → ℕ → List ℕ
-claimsOf s i = cond (mapped s i) (claimedIn s (linkOf s i)) []
+unfoldable pub claimedBy : List ℕ → ℕ → List ℕ
+claimedBy s i = cond (mapped s i) (claimedIn s (linkOf s i)) []
 
 -- the map that chunk i names: one number, or none
 unfoldable pub namesOf : List ℕ → ℕ → List ℕ
@@ -38,15 +39,15 @@ namesOf s i = cond (mapped s i) (linkOf s i ∷ []) []
 unfoldable pub formBy : (ℕ → Bool) → Shape → List ℕ → Bool
 formBy f g ws = let us = unitWords g ws in wellFormed f us && sizeFits g (length (leading f us)) ws
 
--- chunk i names no map, or one of the right form as far as the pass looks
-abbrev pub claimsForm : List ℕ → ℕ → Bool
-claimsForm s i = let g = shapeOf s in not (mapped s i) || formBy (hasBit g) g (wordsOf g s (linkOf s i))
+-- chunk i names no map, or one of the right form by that test
+abbrev pub passableMap : List ℕ → ℕ → Bool
+passableMap s i = let g = shapeOf s in not (mapped s i) || formBy (hasBit g) g (wordsOf g s (linkOf s i))
 
 -- and row 4, "entry neither X nor below M", does not hold of it
-abbrev pub goodClaims : List ℕ → ℕ → Bool
-goodClaims s i = goodLink s i && claimsForm s i
+abbrev pub passable : List ℕ → ℕ → Bool
+passable s i = goodLink s i && passableMap s i
 
--- what is said, in place of how many units it claims, of a chunk of which that is not so: no chunk claims so many
+-- the answer for any other chunk, in place of how many words it claims: none claims so many
 abbrev pub badChunk : ℕ
 badChunk = maxChunkUnits + 1
 
@@ -58,7 +59,7 @@ taken f xs = withAll (λ u. not (f u)) xs
 
 -- the units and the maps that are not free once these chunks have claimed theirs
 abbrev pub unitsTaken : List ℕ → ℕ → ℕ → Bool
-unitsTaken s j = taken (isUnit (shapeOf s)) (joined (claimsOf s) (below j))
+unitsTaken s j = taken (isUnit (shapeOf s)) (joined (claimedBy s) (below j))
 
 abbrev pub mapsTaken : List ℕ → ℕ → ℕ → Bool
 mapsTaken s j = taken (λ k. ltb k (shapeOf s .m)) (joined (namesOf s) (below j))
@@ -71,7 +72,7 @@ passed v = ifSound v (λ r. false) true
 
 -- the pass says yes exactly where no row of 4 to 6 holds, and then the sets, of so many words each, hold what is free; where it says no, nothing is said of
 -- them
-pub record Surveyed (s : List ℕ) (ok : Bool) (unitWords mapWords : ℕ) (units maps : List ℕ) : Type 0 where
+pub record Surveyed (s : List ℕ) (ok : Bool) (unitLength mapLength : ℕ) (units maps : List ℕ) : Type 0 where
   pub right : ok ≡ passed (chunkVerdict s)
-  pub units-left : ok ≡ true → units ≡ bitSet (freeUnit s) unitWords
-  pub maps-left : ok ≡ true → maps ≡ bitSet (freeMap s) mapWords
+  pub units-left : ok ≡ true → units ≡ bitSet (freeUnit s) unitLength
+  pub maps-left : ok ≡ true → maps ≡ bitSet (freeMap s) mapLength

@@ -41,7 +41,7 @@ fn refused(r: Refusal) -> Loaded
     }
 }
 
-// The refusal of an image whose trailer passes, where row 4, 5 or 6 holds. Only a refusal comes here, and the scans' sets are its own.
+// The refusal of an image whose trailer passes, where row 4, 5 or 6 holds. The scans' sets are made here; what they leave is not asked for.
 fn refusal(image: &[u8], g: Shape) -> Refusal
     requires { ⌜ Shaped (now image) g ⌝ }
     requires { ⌜ passed (chunkVerdict (now image)) ≡ false ⌝ }
@@ -75,7 +75,8 @@ pub fn load_into(image: &[u8], units: &mut [u64], maps: &mut [u64]) -> Outcome
     }
 }
 
-// The first refusal of rows 1 to 6, or the shape of a sound image, where nobody asks what is free.
+// The first refusal of rows 1 to 6, or the shape of a sound image, where nobody asks what is free. It does not go through `load_into`: as the one caller of
+// `refusal` that would become one with the scans, and every call on a small volume would be slower by a half.
 pub fn check_image(image: &[u8]) -> Outcome
     ensures { λ r. ⌜ r ≡ outcome (now (image .entry)) ⌝ }
 {

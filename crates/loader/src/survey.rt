@@ -26,9 +26,10 @@ ghost use Rattle.layout.specs.Layout.{X, shapeOf};
 ghost use Rattle.layout.specs.Shaped.{Shaped, unitWordsOf};
 ghost use Rattle.image.specs.Verdicts.{chunkVerdict};
 ghost use Rattle.image.specs.Loading.{unitSetWords, mapSetWords};
-ghost use Rattle.image.specs.Survey.{claimedIn, claimsOf, goodClaims, badChunk, unitsTaken, mapsTaken, passed, Surveyed};
+ghost use Rattle.image.specs.Survey.{claimedIn, claimedBy, passable, badChunk, unitsTaken, mapsTaken, passed, Surveyed};
 
-// Said of a chunk with a bad entry, or whose map has the wrong form as far as the pass looks, in place of how many units it claims.
+// The answer for a chunk with a bad entry, or whose map has the wrong form as far as the pass looks, in place of how many words it claims: no chunk claims
+// more than MAX_CHUNK_UNITS.
 const BAD_CHUNK: usize = MAX_CHUNK_UNITS as usize + 1;
 
 // So many words of a map are looked at together.
@@ -36,8 +37,7 @@ const RUN: usize = 4;
 
 const TWO_RUNS: usize = 2 * RUN;
 
-// Puts the words of map k into the units' set, before the first that has no bit there: how many they are. Two words a turn: a loop that ends at each word
-// takes longer.
+// Puts the words of map k that stand before the first without a bit into the units' set, and answers how many. Two words a turn, which is quicker than one.
 fn put_units(image: &[u8], g: Shape, k: usize, units: &mut [u64]) -> usize
     requires { ⌜ Shaped (now image) g ⌝ }
     requires { ⌜ (k < g .m) × (length (now units) ≡ wordsFor (g .n)) ⌝ }
@@ -99,19 +99,19 @@ fn rest_absent(image: &[u8], g: Shape, k: usize, start: usize) -> bool
     absent_from(image, g, k, start)
 }
 
-// Puts what chunk i claims, its map and its units, into the sets: how many units these are, or BAD_CHUNK.
+// Puts the map that chunk i names and the words that it claims as units into the sets, and answers how many words, or BAD_CHUNK.
 fn put_claims(image: &[u8], g: Shape, i: usize, units: &mut [u64], maps: &mut [u64]) -> usize
     requires { ⌜ Shaped (now image) g ⌝ }
     requires { ⌜ i < g .c ⌝ }
     requires { ⌜ now units ≡ bitSet (unitsTaken (now image) i) (wordsFor (shapeOf (now image) .n)) ⌝ }
     requires { ⌜ now maps ≡ bitSet (mapsTaken (now image) i) (wordsFor (shapeOf (now image) .m)) ⌝ }
-    ensures { λ r. ⌜ r ≡ cond (goodClaims (now (image .entry)) i) (length (claimsOf (now (image .entry)) i)) badChunk ⌝ }
+    ensures { λ r. ⌜ r ≡ cond (passable (now (image .entry)) i) (length (claimedBy (now (image .entry)) i)) badChunk ⌝ }
     ensures { λ r. ⌜
-        (goodClaims (now (image .entry)) i ≡ true
+        (passable (now (image .entry)) i ≡ true
         → now (units .exit) ≡ bitSet (unitsTaken (now (image .entry)) (i + 1)) (wordsFor (shapeOf (now (image .entry)) .n)))
         ⌝ }
     ensures { λ r. ⌜
-        (goodClaims (now (image .entry)) i ≡ true
+        (passable (now (image .entry)) i ≡ true
         → now (maps .exit) ≡ bitSet (mapsTaken (now (image .entry)) (i + 1)) (wordsFor (shapeOf (now (image .entry)) .m)))
         ⌝ }
 {
@@ -139,8 +139,8 @@ fn put_claims(image: &[u8], g: Shape, i: usize, units: &mut [u64], maps: &mut [u
 }
 
 // Whether the chunks are sound: then the sets, which begin empty and have just the words that N and M need, are left with what is free. What no chunk may
-// hold is in the sets from the start, and no claim is looked up before it is put in: at the end as many units are left as were not claimed, unless one was
-// claimed twice or may not be held.
+// hold is put in first, and no claim is looked up before it is put in. At the end claimed and free units are N-R in all, and more where a unit was claimed
+// twice or may not be held. A map that is named twice shows in its units, of which it has one at least.
 fn survey_words(image: &[u8], g: Shape, units: &mut [u64], maps: &mut [u64]) -> bool
     requires { ⌜ Shaped (now image) g ⌝ }
     requires { ⌜ (now units ≡ replicate (wordsFor (g .n)) 0) × (now maps ≡ replicate (wordsFor (g .m)) 0) ⌝ }
@@ -152,30 +152,30 @@ fn survey_words(image: &[u8], g: Shape, units: &mut [u64], maps: &mut [u64]) -> 
     let low = g.r as usize;
     fill_outside(units, low, n);
     fill_outside(maps, 0, m);
-    let mut held: usize = 0;
+    let mut claimed: usize = 0;
     let mut i: usize = 0;
     while i < c {
-        let made = put_claims(image, g, i, units, maps);
-        if made == BAD_CHUNK {
+        let words = put_claims(image, g, i, units, maps);
+        if words == BAD_CHUNK {
             return false;
         }
-        held += made;
+        claimed += words;
         i += 1;
     }
     invert(units);
     invert(maps);
-    held + count(units) == n - low
+    claimed + count(units) == n - low
 }
 
-// The same with sets for a volume of any size, of which the other words stay empty.
+// The same with sets for the largest volume, of which the other words stay empty.
 pub(crate) fn survey(image: &[u8], g: Shape, units: &mut [u64], maps: &mut [u64]) -> bool
     requires { ⌜ Shaped (now image) g ⌝ }
     requires { ⌜ (now units ≡ replicate unitSetWords 0) × (now maps ≡ replicate mapSetWords 0) ⌝ }
     ensures { λ r. ⌜ Surveyed (now (image .entry)) r unitSetWords mapSetWords (now (units .exit)) (now (maps .exit)) ⌝ }
 {
-    let n = words_for(g.n as usize);
-    let m = words_for(g.m as usize);
-    survey_words(image, g, &mut units[..n], &mut maps[..m])
+    let unit_words = words_for(g.n as usize);
+    let map_words = words_for(g.m as usize);
+    survey_words(image, g, &mut units[..unit_words], &mut maps[..map_words])
 }
 
 // Whether the chunks are sound, where nobody asks what is free.

@@ -1,3 +1,4 @@
+-- `loader::load::check_image` meets its contract: the trailer, the pass, and where it says no the scans, by the laws of Loads.
 use Rattle.image.proofs.Loads.{trailer-outcome, chunks-outcome, sound-outcome}
 use Rattle.layout.proofs.Limits.{fits-on, on-shaped}
 use borrow.Author.Needs.{needs}

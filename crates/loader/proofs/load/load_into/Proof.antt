@@ -1,3 +1,4 @@
+-- `loader::load::load_into` meets its contract: the trailer, the pass, and where it says no the scans, by the laws of Loads.
 use Rattle.image.proofs.Loads.{trailer-outcome, chunks-outcome, surveyed-into, refused-into}
 use Rattle.layout.proofs.Limits.{fits-on, on-shaped}
 use mathlib.Core.Path.{sym, _∙_}

@@ -1,4 +1,6 @@
-use Rattle.image.proofs.Loads.{judged-refused, judged-some}
+-- `loader::load::refusal` meets its contract: the scans give the verdict on the chunks, which is a refusal.
+use mathlib.Core.Path.{sym, _∙_}
+use Rattle.image.proofs.Loads.{judged-some}
 use borrow.Author.Needs.{needs}
 use Rattle.loader.proofs.load.refusal.Statement.{statement}
 use Rattle.loader.proofs.load.refusal.Tie as tie
@@ -19,8 +21,7 @@ enum-told : tie.Need-enum-told
 enum-told c = search needs
 
 returns : tie.Need-returns
-returns c = let a = c .before .before .before .before .before .before .before .before .before .args in
-    judged-refused (a .image .now) _ (c .before .before .before .before .before .judge .ensures .right) _ (c .before .v .given .1)
+returns c = sym (c .before .before .before .before .before .judge .ensures .right) ∙ c .before .v .given .1
 
 returns-2 : tie.Need-returns-2
 returns-2 c = let a = c .before .before .before .before .before .before .before .before in

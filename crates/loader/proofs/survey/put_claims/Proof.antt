@@ -1,3 +1,4 @@
+-- `loader::survey::put_claims` meets its contract: each return is one of the laws of Surveying on what the chunk claims.
 use Rattle.image.proofs.Surveying.{put-absent, put-high, put-empty, put-rest, put-size, put-named}
 use Rattle.image.proofs.Leading.{length-leading}
 use Rattle.image.proofs.MapWords.{length-unitsIn}

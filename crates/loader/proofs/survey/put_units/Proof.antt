@@ -1,3 +1,4 @@
+-- `loader::survey::put_units` meets its contract: the first j words had a bit, and are in the set.
 use Rattle.image.proofs.Surveying.{PutWords, puts-none, puts-end, puts-one, puts-no}
 use Rattle.image.proofs.MapWords.{length-unitsIn}
 use Rattle.bitset.specs.Bits.{wordsFor}

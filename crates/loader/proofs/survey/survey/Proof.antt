@@ -1,3 +1,4 @@
+-- `loader::survey::survey` meets its contract: the pass works on the first words of the sets, and the others stay empty.
 use Rattle.search.proofs.Mapping.{take-same}
 use Rattle.bitset.specs.Bits.{wordsFor}
 use Rattle.image.proofs.Surveyed.{survey-over}

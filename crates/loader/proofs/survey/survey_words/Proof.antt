@@ -1,7 +1,8 @@
+-- `loader::survey::survey_words` meets its contract: the sets hold what the chunks below i claim, and the laws of Surveyed settle the end.
 use Rattle.bitset.proofs.Members.{members-most}
 use Rattle.image.proofs.Surveying.{claims-none, units-start, maps-start, put-few, put-bad, put-good, put-count}
 use Rattle.image.proofs.Surveyed.{survey-bad, survey-done}
-use Rattle.image.specs.Survey.{claimsOf, goodClaims, unitsTaken, mapsTaken}
+use Rattle.image.specs.Survey.{claimedBy, passable, unitsTaken, mapsTaken}
 use Rattle.layout.specs.declared.Shape.{Shape}
 use Rattle.layout.specs.Layout.{maxChunkUnits, shapeOf}
 use Rattle.layout.proofs.Limits.{units-high}
@@ -19,11 +20,11 @@ use Rattle.loader.proofs.survey.survey_words.Statement.{statement}
 use Rattle.loader.proofs.survey.survey_words.Tie as tie
 
 abbrev Inv-loop : tie.InvT-loop
-Inv-loop image g units₀ maps₀ c m n low held₀ i₀ units maps held i = (i ≤ c) × (units ≡ bitSet (unitsTaken image i) (wordsFor (shapeOf image .n))) × (maps ≡ bitSet (mapsTaken image i) (wordsFor (shapeOf image .m)))
-    × (held ≡ length (joined (claimsOf image) (below i))) × (held ≤ maxChunkUnits * i) × ((y : ℕ) → y < i → goodClaims image y ≡ true)
+Inv-loop image g units₀ maps₀ c m n low claimed₀ i₀ units maps claimed i = (i ≤ c) × (units ≡ bitSet (unitsTaken image i) (wordsFor (shapeOf image .n))) × (maps ≡ bitSet (mapsTaken image i) (wordsFor (shapeOf image .m)))
+    × (claimed ≡ length (joined (claimedBy image) (below i))) × (claimed ≤ maxChunkUnits * i) × ((y : ℕ) → y < i → passable image y ≡ true)
 
 abbrev μ-loop : tie.MeasureT-loop
-μ-loop image g units₀ maps₀ c m n low held₀ i₀ units maps held i = c - i
+μ-loop image g units₀ maps₀ c m n low claimed₀ i₀ units maps claimed i = c - i
 
 cast-c : tie.Need-cast-c Inv-loop μ-loop
 cast-c c = search needs
@@ -67,8 +68,8 @@ returns c = let a = c .before .before .before .before .before .before .before .b
     let p = ap (λ (g : Shape). g .p) (a .pre .0 .same) in
     survey-bad s (a .args .g) (a .pre .0) _ _ _ _ (c .before .before .before .before .before .before .before .before .before .loop .i) (omega arith) (put-bad s (c .before .before .before .before .before .before .before .before .before .loop .i) _ (c .before .before .before .before .before .put-claims .ensures .0) (omega (arith, a .pre .0 .limits .p-high)) (c .if1 .taken))
 
-add-held : tie.Need-add-held Inv-loop μ-loop
-add-held c = let a = c .before .before .before .before .before .before .before .before .before .before .before .before .before .before .before .before .before .before .before .before .before .before .before .before .before in
+add-claimed : tie.Need-add-claimed Inv-loop μ-loop
+add-claimed c = let a = c .before .before .before .before .before .before .before .before .before .before .before .before .before .before .before .before .before .before .before .before .before .before .before .before .before in
     let s = a .args .image .now in
     let p = ap (λ (g : Shape). g .p) (a .pre .0 .same) in
     omega (arith, a .pre .0 .limits .c-high, a .pre .0 .limits .p-high, put-few s (c .before .before .before .before .before .before .before .before .before .loop .i) _ (c .before .before .before .before .before .put-claims .ensures .0) (put-good s (c .before .before .before .before .before .before .before .before .before .loop .i) _ (c .before .before .before .before .before .put-claims .ensures .0) (c .if1 .left)))
@@ -146,7 +147,7 @@ survey-words-spec =
     same-length
     same-length-2
     returns
-    add-held
+    add-claimed
     add-i
     loop-less
     loop-again
