@@ -1,6 +1,6 @@
 -- The end of the one pass: free and claimed units are N-R in all exactly where no row of 4 to 6 holds, and then the sets hold what is free.
 use Prim.Native.Nat.{ℕ, _+_, _-_, _*_, _<_}
-use mathlib.Core.Path.{_≡_, refl, ap, sym, subst, _∙_}
+use mathlib.Core.Path.{_≡_, refl, ap, ap₂, sym, subst, _∙_}
 use mathlib.Core.Bool.{Bool, true, false, not, _&&_, _||_, false≢true}
 use mathlib.Core.List.{List, [], _∷_, _++_}
 use mathlib.Core.Logic.{⊎-elim}
@@ -269,16 +269,16 @@ module _ (s : List ℕ) (lim : Limits (shapeOf s)) (good : (i : ℕ) → i < sha
 
 -- the same where the code has the shape as g, and went through j chunks
 pub survey-done : (s : List ℕ) (g : Shape) → Shaped s g → (j : ℕ) → j ≡ g .c → ((i : ℕ) → i < j → passable s i ≡ true) → (us ms after rest : List ℕ)
-    → us ≡ bitSet (unitsTaken s j) (wordsFor (shapeOf s .n)) → after ≡ bitSet (λ u. not (inSet us u)) (length us)
-    → ms ≡ bitSet (mapsTaken s j) (wordsFor (shapeOf s .m)) → rest ≡ bitSet (λ u. not (inSet ms u)) (length ms)
+    → us ≡ bitSet (unitsTaken s j) (wordsFor (g .n)) → after ≡ bitSet (λ u. not (inSet us u)) (length us)
+    → ms ≡ bitSet (mapsTaken s j) (wordsFor (g .m)) → rest ≡ bitSet (λ u. not (inSet ms u)) (length ms)
     → (held free : ℕ) → held ≡ length (joined (claimedBy s) (below j)) → free ≡ length (members after)
     → Surveyed s (eqb (held + free) (g .n - g .r)) (wordsFor (g .n)) (wordsFor (g .m)) after rest
 survey-done s g h j whole good us ms after rest eu au em am held free eh ef =
     let c : j ≡ shapeOf s .c = whole ∙ ap (λ (q : Shape). q .c) (h .same) in
     subst (λ (q : Shape). Surveyed s (eqb (held + free) (q .n - q .r)) (wordsFor (q .n)) (wordsFor (q .m)) after rest) (sym (h .same))
     (survey-told s (limits-said s g h) (λ i l. good i (omega arith)) us ms after rest
-    (eu ∙ ap (λ (i : ℕ). bitSet (unitsTaken s i) (wordsFor (shapeOf s .n))) c) au
-    (em ∙ ap (λ (i : ℕ). bitSet (mapsTaken s i) (wordsFor (shapeOf s .m))) c) am
+    (eu ∙ ap₂ (λ (i : ℕ) (q : Shape). bitSet (unitsTaken s i) (wordsFor (q .n))) c (h .same)) au
+    (em ∙ ap₂ (λ (i : ℕ) (q : Shape). bitSet (mapsTaken s i) (wordsFor (q .m))) c (h .same)) am
     held free (eh ∙ ap (λ (i : ℕ). length (joined (claimedBy s) (below i))) c) ef)
 
 -- where the sets are the first words of empty ones: n and m of them

@@ -124,17 +124,17 @@ unfolding joined from
 start f q n set e = put-none (λ u. not (f u)) n set e
 
 pub units-start : (s : List ℕ) (g : Shape) (us : List ℕ) → g ≡ shapeOf s → us ≡ bitSet (λ u. not (leb (g .r) u && ltb u (g .n))) (wordsFor (g .n))
-    → us ≡ bitSet (unitsTaken s 0) (wordsFor (shapeOf s .n))
+    → us ≡ bitSet (unitsTaken s 0) (wordsFor (g .n))
 unfolding isUnit
 units-start s g us q e =
-    start (isUnit (shapeOf s)) (claimedBy s) (wordsFor (shapeOf s .n)) us
-    (e ∙ ap (λ (h : Shape). bitSet (λ u. not (leb (h .r) u && ltb u (h .n))) (wordsFor (h .n))) q)
+    start (isUnit (shapeOf s)) (claimedBy s) (wordsFor (g .n)) us
+    (e ∙ ap (λ (h : Shape). bitSet (λ u. not (leb (h .r) u && ltb u (h .n))) (wordsFor (g .n))) q)
 
 pub maps-start : (s : List ℕ) (g : Shape) (ms : List ℕ) → g ≡ shapeOf s → ms ≡ bitSet (λ u. not (leb 0 u && ltb u (g .m))) (wordsFor (g .m))
-    → ms ≡ bitSet (mapsTaken s 0) (wordsFor (shapeOf s .m))
+    → ms ≡ bitSet (mapsTaken s 0) (wordsFor (g .m))
 maps-start s g ms q e =
-    start (λ k. ltb k (shapeOf s .m)) (namesOf s) (wordsFor (shapeOf s .m)) ms
-    (e ∙ bitSet-ext _ _ (wordsFor (g .m)) (λ y h. rw (le-leb 0 y (omega arith))) ∙ ap (λ (h : Shape). bitSet (λ k. not (ltb k (h .m))) (wordsFor (h .m))) q)
+    start (λ k. ltb k (shapeOf s .m)) (namesOf s) (wordsFor (g .m)) ms
+    (e ∙ bitSet-ext _ _ (wordsFor (g .m)) (λ y h. rw (le-leb 0 y (omega arith))) ∙ ap (λ (h : Shape). bitSet (λ k. not (ltb k (h .m))) (wordsFor (g .m))) q)
 
 pub claims-none : (s : List ℕ) → 0 ≡ length (joined (claimedBy s) (below 0))
 unfolding joined from
@@ -151,12 +151,12 @@ claims-more s i = rw (add-one i, joined-last (claimedBy s) i) (length-append (jo
 
 -- ---- what `put_claims` owes at each of its returns, where the code has the chunk's entry k and the count h of what it claims
 
--- its promises on chunk i, of the answer r and the sets it left
-abbrev Put : List ℕ → ℕ → ℕ → List ℕ → List ℕ → Type 0
-Put s i r units maps =
+-- its promises on chunk i, of the answer r and the sets it left, which have n and m words
+abbrev Put : List ℕ → ℕ → ℕ → ℕ → ℕ → List ℕ → List ℕ → Type 0
+Put s i n m r units maps =
     (r ≡ cond (passable s i) (length (claimedBy s i)) badChunk)
-    × ((passable s i ≡ true → units ≡ bitSet (unitsTaken s (i + 1)) (wordsFor (shapeOf s .n)))
-    × (passable s i ≡ true → maps ≡ bitSet (mapsTaken s (i + 1)) (wordsFor (shapeOf s .m))))
+    × ((passable s i ≡ true → units ≡ bitSet (unitsTaken s (i + 1)) n)
+    × (passable s i ≡ true → maps ≡ bitSet (mapsTaken s (i + 1)) m))
 
 -- so that answer is given of just the chunks that are not good
 module _ (s : List ℕ) (i r : ℕ) (e : r ≡ cond (passable s i) (length (claimedBy s i)) badChunk) where
@@ -175,15 +175,15 @@ module _ (s : List ℕ) (i r : ℕ) (e : r ≡ cond (passable s i) (length (clai
   pub put-count : passable s i ≡ true → length (joined (claimedBy s) (below (i + 1))) ≡ length (joined (claimedBy s) (below i)) + r
   put-count g = claims-more s i ∙ omega (arith, good-count g)
 
-put-none-good : (s : List ℕ) (i : ℕ) (units maps : List ℕ) → passable s i ≡ false → Put s i badChunk units maps
-put-none-good s i units maps h =
+put-none-good : (s : List ℕ) (i n m : ℕ) (units maps : List ℕ) → passable s i ≡ false → Put s i n m badChunk units maps
+put-none-good s i n m units maps h =
     (sym (cond-false (passable s i) (length (claimedBy s i)) badChunk h), (λ t. contradict t h, λ t. contradict t h))
 
-module _ (s : List ℕ) (i k : ℕ) (l : k ≡ linkOf s i) (units maps : List ℕ) where
-  pub put-absent : k ≡ X → units ≡ bitSet (unitsTaken s i) (wordsFor (shapeOf s .n)) → maps ≡ bitSet (mapsTaken s i) (wordsFor (shapeOf s .m))
-      → Put s i 0 units maps
+module _ (s : List ℕ) (i n m k : ℕ) (l : k ≡ linkOf s i) (units maps : List ℕ) where
+  pub put-absent : k ≡ X → units ≡ bitSet (unitsTaken s i) n → maps ≡ bitSet (mapsTaken s i) m
+      → Put s i n m 0 units maps
   unfolding member any
-  put-absent x u m =
+  put-absent x u v =
       let e : linkOf s i ≡ X = sym l ∙ x in
       let none = claims-absent s i e in
       let no-name = names-absent s i e in
@@ -192,8 +192,8 @@ module _ (s : List ℕ) (i k : ℕ) (l : k ≡ linkOf s i) (units maps : List �
       let maps-more = taken-more (λ j. ltb j (shapeOf s .m)) (namesOf s) i in (
         sym (cond-true (passable s i) (length (claimedBy s i)) badChunk good ∙ ap length none),
         (
-          λ t. u ∙ bitSet-ext _ _ (wordsFor (shapeOf s .n)) (λ y h. sym (units-more y ∙ rw none (or-false (unitsTaken s i y)))),
-          λ t. m ∙ bitSet-ext _ _ (wordsFor (shapeOf s .m)) (λ y h. sym (maps-more y ∙ rw no-name (or-false (mapsTaken s i y)))),
+          λ t. u ∙ bitSet-ext _ _ n (λ y h. sym (units-more y ∙ rw none (or-false (unitsTaken s i y)))),
+          λ t. v ∙ bitSet-ext _ _ m (λ y h. sym (maps-more y ∙ rw no-name (or-false (mapsTaken s i y)))),
         ),
       )
 
@@ -201,36 +201,36 @@ module _ (s : List ℕ) (i k : ℕ) (l : k ≡ linkOf s i) (units maps : List �
     named : linkOf s i ≡ X → ⊥
     named w = x (l ∙ w)
 
-    pub put-high : shapeOf s .m ≤ k → Put s i badChunk units maps
-    put-high b = put-none-good s i units maps
+    pub put-high : shapeOf s .m ≤ k → Put s i n m badChunk units maps
+    put-high b = put-none-good s i n m units maps
         (and-false-left (goodLink s i) (passableMap s i) (named-link s i named ∙ le-ltb (linkOf s i) (shapeOf s .m) (omega arith)))
 
     module _ (h : ℕ) (e : h ≡ length (claimedIn s k)) where
-      bad-form : passableMap s i ≡ false → Put s i badChunk units maps
-      bad-form b = put-none-good s i units maps (and-false-right (goodLink s i) (passableMap s i) b)
+      bad-form : passableMap s i ≡ false → Put s i n m badChunk units maps
+      bad-form b = put-none-good s i n m units maps (and-false-right (goodLink s i) (passableMap s i) b)
 
       form : passableMap s i ≡ formBy (hasBit (shapeOf s)) (shapeOf s) (mapOf s k)
       form = form-named s i named ∙ ap (λ (j : ℕ). formBy (hasBit (shapeOf s)) (shapeOf s) (mapOf s j)) (sym l)
 
-      pub put-empty : h ≡ 0 → Put s i badChunk units maps
+      pub put-empty : h ≡ 0 → Put s i n m badChunk units maps
       put-empty z = bad-form (form ∙ form-empty (hasBit (shapeOf s)) (shapeOf s) (mapOf s k) h e z)
 
       module _ (z : h ≡ 0 → ⊥) where
         rest-size : passableMap s i ≡ (all (eqb X) (drop h (unitWordsOf s k)) && sizeFits (shapeOf s) h (mapOf s k))
         rest-size = form ∙ form-held (hasBit (shapeOf s)) (shapeOf s) (mapOf s k) h e z
 
-        pub put-rest : all (eqb X) (drop h (unitWordsOf s k)) ≡ false → Put s i badChunk units maps
+        pub put-rest : all (eqb X) (drop h (unitWordsOf s k)) ≡ false → Put s i n m badChunk units maps
         put-rest b = bad-form (rest-size ∙ and-false-left _ (sizeFits (shapeOf s) h (mapOf s k)) b)
 
-        pub put-size : sizeFits (shapeOf s) h (mapOf s k) ≡ false → Put s i badChunk units maps
+        pub put-size : sizeFits (shapeOf s) h (mapOf s k) ≡ false → Put s i n m badChunk units maps
         put-size b = bad-form (rest-size ∙ and-false-right (all (eqb X) (drop h (unitWordsOf s k))) _ b)
 
         pub put-named : k < shapeOf s .m → all (eqb X) (drop h (unitWordsOf s k)) ≡ true → sizeFits (shapeOf s) h (mapOf s k) ≡ true
-            → units ≡ bitSet (withAll (unitsTaken s i) (claimedIn s k)) (wordsFor (shapeOf s .n))
-            → maps ≡ bitSet (put (mapsTaken s i) k true) (wordsFor (shapeOf s .m))
-            → Put s i h units maps
+            → units ≡ bitSet (withAll (unitsTaken s i) (claimedIn s k)) n
+            → maps ≡ bitSet (put (mapsTaken s i) k true) m
+            → Put s i n m h units maps
         unfolding withAll member any
-        put-named b a f u m =
+        put-named b a f u v =
             let us : claimedBy s i ≡ claimedIn s k = claims-named s i named ∙ ap (claimedIn s) (sym l) in
             let ks : namesOf s i ≡ k ∷ [] = names-named s i named ∙ ap (λ (y : ℕ). y ∷ []) (sym l) in
             let good = and-intro (goodLink s i) (passableMap s i) (named-link s i named ∙ lt-ltb (linkOf s i) (shapeOf s .m) (omega arith))
@@ -239,7 +239,7 @@ module _ (s : List ℕ) (i k : ℕ) (l : k ≡ linkOf s i) (units maps : List �
             let maps-more = taken-more (λ j. ltb j (shapeOf s .m)) (namesOf s) i in (
               sym (cond-true (passable s i) (length (claimedBy s i)) badChunk good ∙ ap length us ∙ sym e),
               (
-                λ t. u ∙ bitSet-ext _ _ (wordsFor (shapeOf s .n)) (λ y q. sym (units-more y ∙ rw us)),
-                λ t. m ∙ bitSet-ext _ _ (wordsFor (shapeOf s .m)) (λ y q. put-in (mapsTaken s i) k y ∙ sym (maps-more y ∙ rw (ks, or-false (eqb y k)))),
+                λ t. u ∙ bitSet-ext _ _ n (λ y q. sym (units-more y ∙ rw us)),
+                λ t. v ∙ bitSet-ext _ _ m (λ y q. put-in (mapsTaken s i) k y ∙ sym (maps-more y ∙ rw (ks, or-false (eqb y k)))),
               ),
             )

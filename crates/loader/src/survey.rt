@@ -22,7 +22,7 @@ ghost use lib.Dec.{eqb};
 ghost use Rattle.search.specs.Search.{all};
 ghost use Rattle.search.specs.Sets.{withAll};
 ghost use Rattle.bitset.specs.Bits.{bitSet, wordsFor};
-ghost use Rattle.layout.specs.Layout.{X, shapeOf};
+ghost use Rattle.layout.specs.Layout.{X};
 ghost use Rattle.layout.specs.Shaped.{Shaped, unitWordsOf};
 ghost use Rattle.image.specs.Verdicts.{chunkVerdict};
 ghost use Rattle.image.specs.Loading.{unitSetWords, mapSetWords};
@@ -103,16 +103,16 @@ fn rest_absent(image: &[u8], g: Shape, k: usize, start: usize) -> bool
 fn put_claims(image: &[u8], g: Shape, i: usize, units: &mut [u64], maps: &mut [u64]) -> usize
     requires { ⌜ Shaped (now image) g ⌝ }
     requires { ⌜ i < g .c ⌝ }
-    requires { ⌜ now units ≡ bitSet (unitsTaken (now image) i) (wordsFor (shapeOf (now image) .n)) ⌝ }
-    requires { ⌜ now maps ≡ bitSet (mapsTaken (now image) i) (wordsFor (shapeOf (now image) .m)) ⌝ }
+    requires { ⌜ now units ≡ bitSet (unitsTaken (now image) i) (wordsFor (g .n)) ⌝ }
+    requires { ⌜ now maps ≡ bitSet (mapsTaken (now image) i) (wordsFor (g .m)) ⌝ }
     ensures { λ r. ⌜ r ≡ cond (passable (now (image .entry)) i) (length (claimedBy (now (image .entry)) i)) badChunk ⌝ }
     ensures { λ r. ⌜
         (passable (now (image .entry)) i ≡ true
-        → now (units .exit) ≡ bitSet (unitsTaken (now (image .entry)) (i + 1)) (wordsFor (shapeOf (now (image .entry)) .n)))
+        → now (units .exit) ≡ bitSet (unitsTaken (now (image .entry)) (i + 1)) (wordsFor (g .n)))
         ⌝ }
     ensures { λ r. ⌜
         (passable (now (image .entry)) i ≡ true
-        → now (maps .exit) ≡ bitSet (mapsTaken (now (image .entry)) (i + 1)) (wordsFor (shapeOf (now (image .entry)) .m)))
+        → now (maps .exit) ≡ bitSet (mapsTaken (now (image .entry)) (i + 1)) (wordsFor (g .m)))
         ⌝ }
 {
     let w = link(image, g, i);

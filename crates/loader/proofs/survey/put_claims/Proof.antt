@@ -23,7 +23,7 @@ link-requires c κs = search needs
 
 returns : tie.Need-returns
 returns c = let a = c .before .before .before .before .before in
-    put-absent (a .args .image .now) (a .args .i) _ (c .before .link .ensures) _ _ (c .if1 .taken) (a .pre .1 .1 .0) (a .pre .1 .1 .1)
+    put-absent (a .args .image .now) (a .args .i) _ _ _ (c .before .link .ensures) _ _ (c .if1 .taken) (a .pre .1 .1 .0) (a .pre .1 .1 .1)
 
 cast-m : tie.Need-cast-m
 cast-m c = search needs
@@ -31,16 +31,16 @@ cast-m c = search needs
 returns-2 : tie.Need-returns-2
 returns-2 c = let a = c .before .before .before .before .before .before .before in
     let m = ap (λ (g : Shape). g .m) (a .pre .0 .same) in
-    put-high (a .args .image .now) (a .args .i) _ (c .before .before .before .link .ensures) _ _ (c .before .before .if1 .left) (omega arith)
+    put-high (a .args .image .now) (a .args .i) _ _ _ (c .before .before .before .link .ensures) _ _ (c .before .before .if1 .left) (omega arith)
 
 place-requires : tie.Need-place-requires
 place-requires c κs = let a = c .before .before .before .before .before .before .before .before in
     let m = ap (λ (g : Shape). g .m) (a .pre .0 .same) in
-    (refl, omega (arith, ap length (a .pre .1 .1 .1) ∙ length-bitSet _ (wordsFor (shapeOf (a .args .image .now) .m))))
+    (refl, omega (arith, ap length (a .pre .1 .1 .1) ∙ length-bitSet _ (wordsFor (a .args .g .m))))
 
 put-units-requires : tie.Need-put-units-requires
 put-units-requires c κs = let a = c .before .before .before .before .before .before .before .before .before .before .before .before in
-    (a .pre .0, (omega arith, ap length (a .pre .1 .1 .0) ∙ length-bitSet _ (wordsFor (shapeOf (a .args .image .now) .n)) ∙ ap (λ (g : Shape). wordsFor (g .n)) (sym (a .pre .0 .same))))
+    (a .pre .0, (omega arith, ap length (a .pre .1 .1 .0) ∙ length-bitSet _ (wordsFor (a .args .g .n))))
 
 same-length : tie.Need-same-length
 same-length c = search needs
@@ -50,7 +50,7 @@ same-length-2 c = search needs
 
 returns-3 : tie.Need-returns-3
 returns-3 c = let a = c .before .before .before .before .before .before .before .before .before .before .before .before .before .before .before .before in
-    put-empty (a .args .image .now) (a .args .i) _ (c .before .before .before .before .before .before .before .before .before .before .before .before .link .ensures) _ _ (c .before .before .before .before .before .before .before .before .before .before .before .if1 .left) _ (c .before .before .before .put-units .ensures .0) (c .if3 .taken)
+    put-empty (a .args .image .now) (a .args .i) _ _ _ (c .before .before .before .before .before .before .before .before .before .before .before .before .link .ensures) _ _ (c .before .before .before .before .before .before .before .before .before .before .before .if1 .left) _ (c .before .before .before .put-units .ensures .0) (c .if3 .taken)
 
 rest-absent-requires : tie.Need-rest-absent-requires
 rest-absent-requires c κs = let a = c .before .before .before .before .before .before .before .before .before .before .before .before .before .before .before .before in
@@ -67,7 +67,7 @@ same-length-4 c = search needs
 
 returns-4 : tie.Need-returns-4
 returns-4 c = let a = c .before .before .before .before .before .before .before .before .before .before .before .before .before .before .before .before .before .before in
-    put-rest (a .args .image .now) (a .args .i) _ (c .before .before .before .before .before .before .before .before .before .before .before .before .before .before .link .ensures) _ _ (c .before .before .before .before .before .before .before .before .before .before .before .before .before .if1 .left) _ (c .before .before .before .before .before .put-units .ensures .0) (c .before .before .if3 .left)
+    put-rest (a .args .image .now) (a .args .i) _ _ _ (c .before .before .before .before .before .before .before .before .before .before .before .before .before .before .link .ensures) _ _ (c .before .before .before .before .before .before .before .before .before .before .before .before .before .if1 .left) _ (c .before .before .before .before .before .put-units .ensures .0) (c .before .before .if3 .left)
     (sym (c .before .rest-absent .ensures) ∙ not-true _ (c .if4 .taken))
 
 size-fits-requires : tie.Need-size-fits-requires
@@ -86,7 +86,7 @@ same-length-6 c = search needs
 
 returns-5 : tie.Need-returns-5
 returns-5 c = let a = c .before .before .before .before .before .before .before .before .before .before .before .before .before .before .before .before .before .before .before .before in
-    put-size (a .args .image .now) (a .args .i) _ (c .before .before .before .before .before .before .before .before .before .before .before .before .before .before .before .before .link .ensures) _ _ (c .before .before .before .before .before .before .before .before .before .before .before .before .before .before .before .if1 .left) _ (c .before .before .before .before .before .before .before .put-units .ensures .0) (c .before .before .before .before .if3 .left)
+    put-size (a .args .image .now) (a .args .i) _ _ _ (c .before .before .before .before .before .before .before .before .before .before .before .before .before .before .before .before .link .ensures) _ _ (c .before .before .before .before .before .before .before .before .before .before .before .before .before .before .before .if1 .left) _ (c .before .before .before .before .before .before .before .put-units .ensures .0) (c .before .before .before .before .if3 .left)
     (sym (c .before .size-fits .ensures) ∙ not-true _ (c .if5 .taken))
 
 same-length-7 : tie.Need-same-length-7
@@ -99,12 +99,11 @@ returns-6 : tie.Need-returns-6
 returns-6 c = let a = c .before .before .before .before .before .before .before .before .before .before .before .before .before .before .before .before .before .before .before .before in
     let s = a .args .image .now in
     let i = a .args .i in
-    let g = ap (λ (g : Shape). wordsFor (g .n)) (a .pre .0 .same) in
     let m = ap (λ (g : Shape). g .m) (a .pre .0 .same) in
-    let named = c .before .before .before .before .before .before .before .before .before .before .before .place .ensures ∙ ap (λ (l : List ℕ). inserted l (c .before .before .before .before .before .before .before .before .before .before .before .before .before .before .before .before .link .result)) (a .pre .1 .1 .1) ∙ inserted-set (mapsTaken s i) (wordsFor (shapeOf s .m)) _ in
-    put-named s i _ (c .before .before .before .before .before .before .before .before .before .before .before .before .before .before .before .before .link .ensures) _ _ (c .before .before .before .before .before .before .before .before .before .before .before .before .before .before .before .if1 .left) _ (c .before .before .before .before .before .before .before .put-units .ensures .0) (c .before .before .before .before .if3 .left) (omega arith)
+    let named = c .before .before .before .before .before .before .before .before .before .before .before .place .ensures ∙ ap (λ (l : List ℕ). inserted l (c .before .before .before .before .before .before .before .before .before .before .before .before .before .before .before .before .link .result)) (a .pre .1 .1 .1) ∙ inserted-set (mapsTaken s i) (wordsFor (a .args .g .m)) _ in
+    put-named s i _ _ _ (c .before .before .before .before .before .before .before .before .before .before .before .before .before .before .before .before .link .ensures) _ _ (c .before .before .before .before .before .before .before .before .before .before .before .before .before .before .before .if1 .left) _ (c .before .before .before .before .before .before .before .put-units .ensures .0) (c .before .before .before .before .if3 .left) (omega arith)
     (sym (c .before .before .before .rest-absent .ensures) ∙ not-false _ (c .before .before .if4 .left)) (sym (c .before .size-fits .ensures) ∙ not-false _ (c .if5 .left))
-    (rw g at (c .before .before .before .before .before .before .before .put-units .ensures .1 (unitsTaken s i)) (a .pre .1 .1 .0)) named
+    (c .before .before .before .before .before .before .before .put-units .ensures .1 (unitsTaken s i) (a .pre .1 .1 .0)) named
 
 pub put-claims-spec : {M : Type 1} → statement M
 put-claims-spec =

@@ -4,7 +4,7 @@ use Rattle.image.proofs.Surveying.{claims-none, units-start, maps-start, put-fe
 use Rattle.image.proofs.Surveyed.{survey-bad, survey-done}
 use Rattle.image.specs.Survey.{claimedBy, passable, unitsTaken, mapsTaken}
 use Rattle.layout.specs.declared.Shape.{Shape}
-use Rattle.layout.specs.Layout.{maxChunkUnits, shapeOf}
+use Rattle.layout.specs.Layout.{maxChunkUnits}
 use Rattle.layout.proofs.Limits.{units-high}
 use Rattle.bitset.proofs.BitSets.{length-bitSet}
 use Rattle.bitset.specs.Bits.{bitSet, wordsFor}
@@ -20,7 +20,7 @@ use Rattle.loader.proofs.survey.survey_words.Statement.{statement}
 use Rattle.loader.proofs.survey.survey_words.Tie as tie
 
 abbrev Inv-loop : tie.InvT-loop
-Inv-loop image g units₀ maps₀ c m n low claimed₀ i₀ units maps claimed i = (i ≤ c) × (units ≡ bitSet (unitsTaken image i) (wordsFor (shapeOf image .n))) × (maps ≡ bitSet (mapsTaken image i) (wordsFor (shapeOf image .m)))
+Inv-loop image g units₀ maps₀ c m n low claimed₀ i₀ units maps claimed i = (i ≤ c) × (units ≡ bitSet (unitsTaken image i) (wordsFor (g .n))) × (maps ≡ bitSet (mapsTaken image i) (wordsFor (g .m)))
     × (claimed ≡ length (joined (claimedBy image) (below i))) × (claimed ≤ maxChunkUnits * i) × ((y : ℕ) → y < i → passable image y ≡ true)
 
 abbrev μ-loop : tie.MeasureT-loop
@@ -54,13 +54,11 @@ put-claims-requires c κs = (c .before .before .before .before .before .before .
 
 same-length : tie.Need-same-length Inv-loop μ-loop
 same-length c = let a = c .before .before .before .before .before .before .before .before .before .before .before .before .before .before .before .before .before .before .before .before .before .before .before .before .before in
-    let n = ap (λ (g : Shape). wordsFor (g .n)) (a .pre .0 .same) in
-    omega (arith, ap length (c .before .before .before .before .before .before .before .before .before .loop .inv .1) ∙ length-bitSet _ (wordsFor (shapeOf (a .args .image .now) .n)), ap length (a .pre .1 .0) ∙ length-replicate {A = ℕ} (wordsFor (a .args .g .n)) 0)
+    omega (arith, ap length (c .before .before .before .before .before .before .before .before .before .loop .inv .1) ∙ length-bitSet _ (wordsFor (a .args .g .n)), ap length (a .pre .1 .0) ∙ length-replicate {A = ℕ} (wordsFor (a .args .g .n)) 0)
 
 same-length-2 : tie.Need-same-length-2 Inv-loop μ-loop
 same-length-2 c = let a = c .before .before .before .before .before .before .before .before .before .before .before .before .before .before .before .before .before .before .before .before .before .before .before .before .before in
-    let m = ap (λ (g : Shape). wordsFor (g .m)) (a .pre .0 .same) in
-    omega (arith, ap length (c .before .before .before .before .before .before .before .before .before .loop .inv .2) ∙ length-bitSet _ (wordsFor (shapeOf (a .args .image .now) .m)), ap length (a .pre .1 .1) ∙ length-replicate {A = ℕ} (wordsFor (a .args .g .m)) 0)
+    omega (arith, ap length (c .before .before .before .before .before .before .before .before .before .loop .inv .2) ∙ length-bitSet _ (wordsFor (a .args .g .m)), ap length (a .pre .1 .1) ∙ length-replicate {A = ℕ} (wordsFor (a .args .g .m)) 0)
 
 returns : tie.Need-returns Inv-loop μ-loop
 returns c = let a = c .before .before .before .before .before .before .before .before .before .before .before .before .before .before .before .before .before .before .before .before .before .before .before .before .before in
@@ -103,13 +101,11 @@ invert-requires-2 c κs = search needs
 
 count-requires : tie.Need-count-requires Inv-loop μ-loop
 count-requires c κs = let a = c .before .before .before .before .before .before .before .before .before .before .before .before .before .before .before .before .before .before .before .before .before .before .before .before .before .before in
-    let n = ap (λ (g : Shape). wordsFor (g .n)) (a .pre .0 .same) in
-    omega (arith, units-high (a .args .g) (a .pre .0 .limits), ap length (c .before .before .before .before .before .before .before .before .before .before .loop .inv .1) ∙ length-bitSet _ (wordsFor (shapeOf (a .args .image .now) .n)), c .before .before .before .before .before .before .before .invert .kept .0)
+    omega (arith, units-high (a .args .g) (a .pre .0 .limits), ap length (c .before .before .before .before .before .before .before .before .before .before .loop .inv .1) ∙ length-bitSet _ (wordsFor (a .args .g .n)), c .before .before .before .before .before .before .before .invert .kept .0)
 
 add-result : tie.Need-add-result Inv-loop μ-loop
 add-result c = let a = c .before .before .before .before .before .before .before .before .before .before .before .before .before .before .before .before .before .before .before .before .before .before .before .before .before .before .before in
-    let n = ap (λ (g : Shape). wordsFor (g .n)) (a .pre .0 .same) in
-    let z = ap length (c .before .before .before .before .before .before .before .before .before .before .before .loop .inv .1) ∙ length-bitSet _ (wordsFor (shapeOf (a .args .image .now) .n)) in
+    let z = ap length (c .before .before .before .before .before .before .before .before .before .before .before .loop .inv .1) ∙ length-bitSet _ (wordsFor (a .args .g .n)) in
     omega (arith, c .count .ensures, members-most (c .before .before .before .before .before .before .before .before .invert .last .0), c .before .before .before .before .before .before .before .before .invert .kept .0, units-high (a .args .g) (a .pre .0 .limits), a .pre .0 .limits .c-high)
 
 sub-result : tie.Need-sub-result Inv-loop μ-loop
@@ -117,13 +113,11 @@ sub-result c = let a = c .before .before .before .before .before .before .before
 
 same-length-3 : tie.Need-same-length-3 Inv-loop μ-loop
 same-length-3 c = let a = c .before .before .before .before .before .before .before .before .before .before .before .before .before .before .before .before .before .before .before .before .before .before .before .before .before .before .before in
-    let n = ap (λ (g : Shape). wordsFor (g .n)) (a .pre .0 .same) in
-    omega (arith, c .before .before .before .before .before .before .before .before .invert .kept .0, ap length (c .before .before .before .before .before .before .before .before .before .before .before .loop .inv .1) ∙ length-bitSet _ (wordsFor (shapeOf (a .args .image .now) .n)), ap length (a .pre .1 .0) ∙ length-replicate {A = ℕ} (wordsFor (a .args .g .n)) 0)
+    omega (arith, c .before .before .before .before .before .before .before .before .invert .kept .0, ap length (c .before .before .before .before .before .before .before .before .before .before .before .loop .inv .1) ∙ length-bitSet _ (wordsFor (a .args .g .n)), ap length (a .pre .1 .0) ∙ length-replicate {A = ℕ} (wordsFor (a .args .g .n)) 0)
 
 same-length-4 : tie.Need-same-length-4 Inv-loop μ-loop
 same-length-4 c = let a = c .before .before .before .before .before .before .before .before .before .before .before .before .before .before .before .before .before .before .before .before .before .before .before .before .before .before .before in
-    let m = ap (λ (g : Shape). wordsFor (g .m)) (a .pre .0 .same) in
-    omega (arith, c .before .before .before .before .invert2 .kept .0, ap length (c .before .before .before .before .before .before .before .before .before .before .before .loop .inv .2) ∙ length-bitSet _ (wordsFor (shapeOf (a .args .image .now) .m)), ap length (a .pre .1 .1) ∙ length-replicate {A = ℕ} (wordsFor (a .args .g .m)) 0)
+    omega (arith, c .before .before .before .before .invert2 .kept .0, ap length (c .before .before .before .before .before .before .before .before .before .before .before .loop .inv .2) ∙ length-bitSet _ (wordsFor (a .args .g .m)), ap length (a .pre .1 .1) ∙ length-replicate {A = ℕ} (wordsFor (a .args .g .m)) 0)
 
 returns-2 : tie.Need-returns-2 Inv-loop μ-loop
 returns-2 c = let a = c .before .before .before .before .before .before .before .before .before .before .before .before .before .before .before .before .before .before .before .before .before .before .before .before .before .before .before in
