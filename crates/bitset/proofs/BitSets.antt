@@ -92,7 +92,7 @@ word-whole ws i small =
     rw (word, bit) at (word-from ws (64 * i) (rw word small)) ∙ div-one (getD ws i 0)
 
 -- all words of 64 bits are a set: that of the numbers in it
-as-set : (ws : List ℕ) → ((i : ℕ) → getD ws i 0 < 2 ^ 64) → ws ≡ bitSet (inSet ws) (length ws)
+pub as-set : (ws : List ℕ) → ((i : ℕ) → getD ws i 0 < 2 ^ 64) → ws ≡ bitSet (inSet ws) (length ws)
 as-set ws small = bitSet-intro ws (inSet ws) (length ws) refl (λ i k. sym (word-whole ws i (small i)))
 
 -- ---- what is in a set

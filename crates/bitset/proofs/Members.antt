@@ -8,11 +8,12 @@ use native.Mathlib.Nat.{sub-zero}
 use native.Mathlib.Omega.{arith}
 use lib.ListN.{length}
 use Rattle.search.specs.Search.{below, keep, rising}
-use Rattle.search.proofs.Bools.{contradict, is-false, less-or-not}
+use Rattle.search.proofs.Bools.{is-false, less-or-not}
 use Rattle.search.proofs.Kept.{keep-ext, keep-short, keep-few}
 use Rattle.search.proofs.Ranges.{member-below, length-from}
+use Rattle.search.proofs.Rising.{rising-all}
 use Rattle.bitset.specs.Bits.{bitSet, inSet, limit, members, membersBelow}
-use Rattle.bitset.proofs.BitSets.{length-bitSet, in-bitSet, past-bitSet}
+use Rattle.bitset.proofs.BitSets.{length-bitSet, in-bitSet, in-past, past-bitSet}
 
 -- in the first `end` words
 below-bitSet : (f : ℕ → Bool) (n end : ℕ) → end ≤ n → membersBelow (bitSet f n) (64 * end) ≡ keep f (below (64 * end))
@@ -36,12 +37,12 @@ found-below f k n only l =
 pub members-below : (f : ℕ → Bool) (k n : ℕ) → ((u : ℕ) → f u ≡ true → u < k) → k ≤ 64 * n → members (bitSet f n) ≡ keep f (below k)
 members-below f k n only l = members-bitSet f n ∙ found-below f k (64 * n) only l
 
--- words whose members are all below `top`, which have a bit in the first `end` of them
-pub members-first : (ws : List ℕ) (end top : ℕ) → end ≤ length ws → top ≤ 64 * end → ((u : ℕ) → inSet ws u ≡ true → u < top)
-    → membersBelow ws (64 * end) ≡ members ws
-unfolding rising
-members-first ws end top h l only =
-    sym (found-below (inSet ws) (64 * end) (64 * length ws - 0) (λ u e. let low = only u e in omega arith) (omega arith))
+-- no member is past the last word
+pub members-past : (ws : List ℕ) (n : ℕ) → limit ws ≤ n → membersBelow ws n ≡ members ws
+members-past ws n h =
+    let all : n ≡ limit ws + (n - limit ws) = omega arith in
+    ap (membersBelow ws) all ∙ keep-short (inSet ws) 0 (limit ws) (n - limit ws) (λ u a. in-past ws u (omega arith))
+    ∙ sym (rising-all (inSet ws) (limit ws))
 
 -- a set all of whose numbers have a bit contains just these
 pub in-whole : (f : ℕ → Bool) (n : ℕ) → ((u : ℕ) → f u ≡ true → u < 64 * n) → inSet (bitSet f n) ≡ f
@@ -49,11 +50,6 @@ in-whole f n within = fun-ext λ u.
     ⊎-elim (in-bitSet f n u)
     (λ past. past-bitSet f n u past ∙ sym (is-false (f u) (λ e. let low = within u e in omega arith)))
     (less-or-not u (64 * n))
-
--- of a number that a set contains its test holds
-pub in-holds : (f : ℕ → Bool) (n u : ℕ) → inSet (bitSet f n) u ≡ true → f u ≡ true
-in-holds f n u e =
-    ⊎-elim (λ l. sym (in-bitSet f n u l) ∙ e) (λ past. contradict e (past-bitSet f n u past)) (less-or-not u (64 * n))
 
 -- no more than n members are below n
 pub members-few : (ws : List ℕ) (n : ℕ) → length (membersBelow ws n) ≤ n

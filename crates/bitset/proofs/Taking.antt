@@ -1,11 +1,11 @@
--- The loops of `lowest`: over the words, and over the ones of a word that are below the bound.
-use Prim.Native.Nat.{ℕ, _+_, _-_, _*_, _^_, _<_}
+-- The members below a bound: how many there are, and the loops of `lowest`, over the words and over the ones of a word.
+use Prim.Native.Nat.{ℕ, _+_, _-_, _*_, _/_, _^_, _≤_, _<_}
 use mathlib.Core.Bool.{Bool, true, _&&_, and-true}
 use mathlib.Core.List.{List, _∷_, _++_}
 use mathlib.Core.Path.{_≡_, ap, sym, _∙_}
 use native.Mathlib.Omega.{arith}
 use lib.Bits.{bitAnd, and-le-l}
-use lib.Count.{trailingZeros}
+use lib.Count.{ones, trailingZeros}
 use lib.ListN.{length, getD, set}
 use lib.Dec.{ltb}
 use borrow.Author.Tests.{lt-ltb, le-ltb, ltb-true}
@@ -18,23 +18,45 @@ use Rattle.search.proofs.Rising.{rising-all, rising-cut}
 use Rattle.search.proofs.Filling.{Filling, filling-start, filling-more}
 use Rattle.bitset.specs.Bits.{bits, inSet, limit, membersBelow}
 use Rattle.bitset.proofs.BitSets.{word-whole, in-past}
+use Rattle.bitset.proofs.Counts.{ones-below}
 use Rattle.bitset.proofs.Ones.{onesFrom, ones-kept, ones-none, ones-next, bits-and}
 
 -- what is wanted: the members below the bound
 abbrev pub wanted : List ℕ → ℕ → ℕ → Bool
 wanted ws end u = inSet ws u && ltb u end
 
+-- among the numbers below i: all members where the bound is no lower, and those below the bound where it is no higher
+wanted-low : (ws : List ℕ) (end i : ℕ) → i ≤ end → keep (wanted ws end) (below i) ≡ membersBelow ws i
+wanted-low ws end i h =
+    keep-ext (wanted ws end) (inSet ws) (below i) (λ u m. rw (lt-ltb u end (omega (arith, member-below u i m))) (and-true (inSet ws u)))
+
+wanted-high : (ws : List ℕ) (end i : ℕ) → end ≤ i → keep (wanted ws end) (below i) ≡ membersBelow ws end
+wanted-high ws end i h =
+    let f = wanted ws end in
+    let all : i ≡ end + (i - end) = omega arith in
+    ap (λ (k : ℕ). keep f (below k)) all
+    ∙ keep-short f 0 end (i - end) (λ u a. and-false-right (inSet ws u) (ltb u end) (le-ltb u end (omega arith)))
+    ∙ wanted-low ws end end (omega arith)
+
 -- all of them have a bit
 wanted-all : (ws : List ℕ) (end : ℕ) → rising (wanted ws end) (limit ws) 0 ≡ membersBelow ws end
 wanted-all ws end =
-    let n = limit ws in
     let f = wanted ws end in
-    let sum : n + end ≡ end + n = omega arith in
-    rising-all f n
-    ∙ sym (keep-short f 0 n end (λ u a. rw (in-past ws u (omega arith))))
-    ∙ ap (λ (k : ℕ). keep f (below k)) sum
-    ∙ keep-short f 0 end n (λ u a. and-false-right (inSet ws u) (ltb u end) (le-ltb u end (omega arith)))
-    ∙ keep-ext f (inSet ws) (below end) (λ u m. rw (lt-ltb u end (member-below u end m)) (and-true (inSet ws u)))
+    rising-all f (limit ws)
+    ∙ sym (keep-short f 0 (limit ws) end (λ u a. rw (in-past ws u (omega arith))))
+    ∙ wanted-high ws end (limit ws + end) (omega arith)
+
+-- those in word i, which is masked with that of the numbers below the bound
+module _ (ws : List ℕ) (end i mask : ℕ) (small : getD ws i 0 < 2 ^ 64) (e : mask ≡ bits (λ u. ltb u end) (64 * i) 64) where
+  wanted-word : bits (wanted ws end) (64 * i) 64 ≡ bitAnd (getD ws i 0) mask
+  wanted-word = sym ((λ t. bitAnd (sym (word-whole ws i small) t) (e t)) ∙ bits-and (inSet ws) (λ u. ltb u end) (64 * i) 64)
+
+  -- where i is the bound's own word, they are those that the words before it do not have
+  pub ones-last : i ≡ end / 64 → length (membersBelow ws end) ≡ length (membersBelow ws (64 * i)) + ones (bitAnd (getD ws i 0) mask)
+  ones-last here =
+      let next = 64 * (i + 1) in
+      rw (wanted-high ws end next (omega arith), wanted-low ws end (64 * i) (omega arith))
+      at (ones-below (wanted ws end) (64 * i) 64 next (bitAnd (getD ws i 0) mask) (omega arith) wanted-word)
 
 kept-low : (ws : List ℕ) (end : ℕ) (us : List ℕ) → all (λ u. ltb u end) (keep (wanted ws end) us) ≡ true
 kept-low ws end us =
@@ -61,8 +83,8 @@ module _ (ws : List ℕ) (end : ℕ) (out₀ : List ℕ) where
     word-start mask here small e h =
         let f = wanted ws end in
         let base = 64 * i in
-        let word = (λ t. bitAnd (sym (word-whole ws i small) t) (e t)) ∙ bits-and (inSet ws) (λ u. ltb u end) base 64 in
-        let ones : onesFrom base 64 (bitAnd (getD ws i 0) mask) ≡ keep f (from base 64) = ap (onesFrom base 64) word ∙ ones-kept f base 64 in
+        let ones : onesFrom base 64 (bitAnd (getD ws i 0) mask) ≡ keep f (from base 64) =
+        ap (onesFrom base 64) (sym (wanted-word ws end i mask small e)) ∙ ones-kept f base 64 in
         let next : base + 64 ≡ 64 * (i + 1) = omega arith in
         let cut : rising f (limit ws) base ≡ keep f (from base 64) ++ rising f (limit ws) (64 * (i + 1)) =
         rw next at (rising-cut f (limit ws) base 64 (omega arith)) in

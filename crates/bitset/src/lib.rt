@@ -185,7 +185,7 @@ pub fn next_member(set: &[u64], start: usize) -> usize
 }
 
 // How many members the first `end` words of the set have.
-pub fn count_words(set: &[u64], end: usize) -> usize
+fn count_words(set: &[u64], end: usize) -> usize
     requires { ⌜ (limit (now set) < 2 ^ 64) × (end ≤ length (now set)) ⌝ }
     ensures { λ r. ⌜ r ≡ length (membersBelow (now (set .entry)) (64 * end)) ⌝ }
 {
@@ -204,6 +204,21 @@ pub fn count(set: &[u64]) -> usize
     ensures { λ r. ⌜ r ≡ length (members (now (set .entry))) ⌝ }
 {
     count_words(set, set.len())
+}
+
+// How many members below n the set has: past its last word there is none.
+pub fn count_below(set: &[u64], n: u32) -> u32
+    requires { ⌜ limit (now set) < 2 ^ 64 ⌝ }
+    ensures { λ r. ⌜ r ≡ length (membersBelow (now (set .entry)) n) ⌝ }
+{
+    let end = n as usize;
+    let last = end / 64;
+    if set.len() <= last {
+        return count(set) as u32;
+    }
+    // The word of n, with the members from n on masked out.
+    let word = set[last] & word_below(end, last);
+    (count_words(set, last) + u64::count_ones(word) as usize) as u32
 }
 
 // Stores the lowest members below `end` in `out`, rising, as many as it has room for, and answers how many.
