@@ -40,14 +40,22 @@ pub record Known (s : List ℕ) (l : Loaded) : Type 0 where
 
 -- ---- of the outcome
 
--- a shape is the outcome of a sound image alone, and a refusal of one that is refused
-sound-passed : (v : Verdict) (h g : Shape) → ifSound v OutcomeRefused (Sound h) ≡ Sound g → (v ≡ Passed) × (g ≡ h)
+-- a shape is the outcome where nothing is refused, and a refusal where it is; of any verdict v and shape h
+pub sound-passed : (v : Verdict) (h g : Shape) → ifSound v OutcomeRefused (Sound h) ≡ Sound g → (v ≡ Passed) × (g ≡ h)
 sound-passed Passed h g e = (refl, cc)
 sound-passed (Refused r) h g e = let z : _≡_ {A = ℕ} 0 1 = cc in absurd (omega arith)
 
-refused-so : (v : Verdict) (h : Shape) (r : Refusal) → ifSound v OutcomeRefused (Sound h) ≡ OutcomeRefused r → v ≡ Refused r
+pub refused-so : (v : Verdict) (h : Shape) (r : Refusal) → ifSound v OutcomeRefused (Sound h) ≡ OutcomeRefused r → v ≡ Refused r
 refused-so Passed h r e = let z : _≡_ {A = ℕ} 0 1 = cc in absurd (omega arith)
 refused-so (Refused q) h r e = cc
+
+-- the answer to a question, as a call finds it that asks for the outcome first
+module _ {A : Type 0} (v : Verdict) (h : Shape) (o : Outcome) (e : o ≡ ifSound v OutcomeRefused (Sound h)) (refuse : Refusal → A) (reply : A) where
+  pub answer-refused : (r : Refusal) → o ≡ OutcomeRefused r → refuse r ≡ ifSound v refuse reply
+  answer-refused r q = rw (refused-so v h r (sym e ∙ q))
+
+  pub answer-sound : (g : Shape) → o ≡ Sound g → reply ≡ ifSound v refuse reply
+  answer-sound g q = rw (sound-passed v h g (sym e ∙ q) .0)
 
 -- of a sound image of shape g, where nobody asks what is free
 pub record KnownShape (s : List ℕ) (g : Shape) : Type 0 where
@@ -72,10 +80,10 @@ module _ (s : List ℕ) (o : Outcome) (e : o ≡ outcome s) where
   -- the answer to a question on the image, as an entry point finds it
   module _ {A : Type 0} (refuse : Refusal → A) (reply : A) where
     pub outcome-answer-refused : (r : Refusal) → o ≡ OutcomeRefused r → refuse r ≡ ifSound (verdict s) refuse reply
-    outcome-answer-refused r h = rw (outcome-refused r h)
+    outcome-answer-refused = answer-refused (verdict s) (shapeOf s) o e refuse reply
 
     pub outcome-answer-sound : (g : Shape) → o ≡ Sound g → reply ≡ ifSound (verdict s) refuse reply
-    outcome-answer-sound g h = rw (outcome-passed g h .0)
+    outcome-answer-sound = answer-sound (verdict s) (shapeOf s) o e refuse reply
 
 module _ (s : List ℕ) (o : Outcome) (us ms : List ℕ) (e : LoadedInto s o us ms) (g : Shape) (h : o ≡ Sound g) where
   pub into-loaded : _≡_ {A = Loaded} (record { verdict = Passed; shape = g; units = us; maps = ms }) (loaded s)

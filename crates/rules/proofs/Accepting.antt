@@ -59,7 +59,7 @@ fine (Refused y) x e = no-denial y e
 
 -- on what is known of an image
 module _ (kn : Known) (r : Request) (plan : List ℕ) (e : judged kn r plan ≡ Accepted) where
-  judged-good : (goodChunk (kn .shape) r ≡ true) × (goodSize (kn .shape) r ≡ true) × (broken (brokenRule kn r plan) ≡ Accepted)
+  pub judged-good : (goodChunk (kn .shape) r ≡ true) × (goodSize (kn .shape) r ≡ true) × (broken (brokenRule kn r plan) ≡ Accepted)
   unfolding judged
   judged-good = good (goodChunk (kn .shape) r) (goodSize (kn .shape) r) (broken (brokenRule kn r plan)) e
 

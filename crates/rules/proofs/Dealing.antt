@@ -23,8 +23,7 @@ use Rattle.steps.specs.Steps.{needOf}
 use Rattle.rules.specs.Rules.{collect, every, pieceIn, unitIn, pieces, units, unitOf, onceEach, dataFits, rule2}
 use Rattle.rules.specs.Reading.{At}
 use Rattle.rules.proofs.Once.{once, once-there, once-below}
-use Rattle.rules.proofs.Places.{at-getD, getD-at, at-below, at-place, at-member}
-use Rattle.rules.proofs.Places.{every-at, every-intro, collect-in, collect-at, collect-once, collect-distinct}
+use Rattle.rules.proofs.Places.{at-getD, getD-at, at-below, at-place, at-member, every-at, every-intro, collect-in, collect-at, collect-once, collect-distinct}
 use Rattle.rules.proofs.StepLaws.{unitOf-here, unitOf-later, unitOf-none}
 
 pub in-one : (n m : ℕ) → member n (m ∷ []) ≡ true → n ≡ m

@@ -18,15 +18,13 @@ use Rattle.steps.specs.declared.Step.{Step}
 use Rattle.steps.specs.declared.Step.the-variants.{Data, Map, Link, Fence}
 use Rattle.steps.specs.declared.Request.the-variants.{Write, Discard}
 use Rattle.steps.specs.Steps.{goodSize}
-use Rattle.rules.specs.Rules.{collect, linkIn, pieces, units, maps, words, links, linked, unitOf, wordFor}
-use Rattle.rules.specs.Rules.{mapsFit, endsIn, beforeLink, afterLink, isNone, planMap, onceEach, linksAre, rule2, rule3, rule4, rule5}
+use Rattle.rules.specs.Rules.{collect, linkIn, pieces, units, maps, words, links, linked, unitOf, wordFor, mapsFit, endsIn, beforeLink, afterLink, isNone, planMap, onceEach, linksAre, rule2, rule3, rule4, rule5}
 use Rattle.steps.specs.Encodable.{Each}
 use Rattle.steps.proofs.Codec.{each-map}
 use Rattle.rules.proofs.Once.{once}
 use Rattle.rules.proofs.Dealing.{rule2-pieces, rule2Before, kept-before}
 use Rattle.rules.proofs.Places.{empty}
-use Rattle.rules.proofs.StepLaws.{InRange, OnMap, OnLink, NoMap, Stores, Links, on-links, wordsOn, words-on, words-below}
-use Rattle.rules.proofs.StepLaws.{each-on-map, fit-free, each-link, each-stores, each-no-map, same-count, unitOf-in, unitOf-none, unitOf-one}
+use Rattle.rules.proofs.StepLaws.{InRange, OnMap, OnLink, NoMap, Stores, Links, on-links, wordsOn, words-on, words-below, each-on-map, fit-free, each-link, each-stores, each-no-map, same-count, unitOf-in, unitOf-none, unitOf-one}
 
 -- What a plan does for one chunk c: it puts k free units on the free map m, `unit j` for piece j, with the size where a map keeps it, and links c to it.
 pub record Deal (s : List ℕ) (xs : List Step) (c size k m : ℕ) (unit : ℕ → ℕ) : Type 0 where
