@@ -1,7 +1,7 @@
--- How many units mapped chunks hold, what the sets of what is free count, and the report of a sound image as src/reports.rt makes it.
-use Prim.Native.Nat.{ℕ, _+_, _-_, _*_, _≤_, _<_}
+-- How many units mapped chunks hold, the report as src/reports.rt makes it, and the report and the alarm of a sound image by its sets of what is free.
+use Prim.Native.Nat.{ℕ, _-_, _*_, _≤_}
 use native.Mathlib.Omega.{arith}
-use mathlib.Core.Path.{_≡_, ap, _∙_}
+use mathlib.Core.Path.{_≡_, refl, ap, _∙_}
 use mathlib.Core.List.{List}
 use lib.ListN.{length}
 use lib.Ieee.{Float}
@@ -9,23 +9,22 @@ use Rattle.search.specs.Search.{below, keep, joined}
 use Rattle.search.proofs.Ranges.{member-below, length-from}
 use Rattle.search.proofs.Kept.{member-keep, keep-few}
 use Rattle.search.proofs.Joined.{length-joined, length-joined-low, joined-kept}
-use Rattle.bitset.specs.Bits.{limit, members}
-use Rattle.bitset.proofs.BitSets.{length-bitSet}
+use Rattle.bitset.specs.Bits.{inSet}
 use Rattle.layout.specs.declared.Shape.{Shape}
 use Rattle.layout.specs.Layout.{shapeOf}
-use Rattle.layout.proofs.Limits.{product-high, maps-few, units-high, fitting-limits}
 use Rattle.image.specs.declared.Loaded.{Loaded}
 use Rattle.image.specs.Claims.{Tested}
 use Rattle.image.specs.Soundness.{mapped, unitsOf}
-use Rattle.image.specs.Free.{freeUnit, freeMap, heldUnits}
-use Rattle.image.specs.Loading.{unitSetWords, mapSetWords}
+use Rattle.image.specs.Free.{freeUnit, freeMap, freeUnits, freeMaps, heldUnits}
 use Rattle.image.proofs.Chunks.{units-unmapped, length-units, units-some}
 use Rattle.image.proofs.Room.{free-and-held, free-and-named}
+use Rattle.image.proofs.FreeSets.{units-test, maps-test}
 use Rattle.image.proofs.Loads.{Known}
-use Rattle.image.proofs.FreeSets.{unit-members, map-members}
 use Rattle.report.specs.declared.Report.{Report}
+use Rattle.report.specs.declared.Level.{Level}
 use Rattle.report.specs.Counts.{mappedCount, heldCount, freeCount}
-use Rattle.report.specs.Reports.{ratio, ratioIfMapped, reportOf}
+use Rattle.report.specs.Reports.{ratio, ratioIfMapped, reportOf, reportFrom, reportOn}
+use Rattle.report.specs.Alarms.{alarmAt, alarmOn}
 
 -- ---- what mapped chunks hold
 
@@ -55,58 +54,46 @@ module _ (s : List ℕ) where
   unfolding mappedCount
   mapped-most = let a = keep-few (mapped s) (below (shapeOf s .c)) in let b = length-from 0 (shapeOf s .c) in omega arith
 
--- ---- the sets of what is free, as `free_count` asks for them
+-- ---- the report of any counts, as src/reports.rt makes it
 
-module _ (s : List ℕ) (l : Loaded) (k : Known s l) where
-  pub units-fit : (l .shape .n ≤ limit (l .units)) × (limit (l .units) < 4294967296)
-  units-fit =
-      let long : length (l .units) ≡ unitSetWords = ap length (k .units) ∙ length-bitSet (freeUnit s) unitSetWords in
-      let high = units-high (l .shape) (k .shaped .limits) in
-      (omega arith, omega arith)
-
-  pub maps-fit : (l .shape .m ≤ limit (l .maps)) × (limit (l .maps) < 4294967296)
-  maps-fit =
-      let long : length (l .maps) ≡ mapSetWords = ap length (k .maps) ∙ length-bitSet (freeMap s) mapSetWords in
-      let high = maps-few (l .shape) (k .shaped .limits) in
-      (omega arith, omega arith)
-
-  pub units-counted : (r : ℕ) → r ≡ length (members (l .units)) → r ≡ freeCount s
-  units-counted r e = e ∙ ap length (unit-members s l k)
-
-  -- each mapped chunk names a map of its own
-  pub maps-counted : (r : ℕ) → r ≡ length (members (l .maps)) → (r ≤ l .shape .m) × (l .shape .m - r ≡ mappedCount s)
-  unfolding mappedCount
-  maps-counted r e =
-      let free = e ∙ ap length (map-members s l k) in
-      let m = ap (λ (g : Shape). g .m) (k .shape) in
-      let all = free-and-named s (k .sound) in
-      (omega arith, omega arith)
-
--- ---- the report of a sound image, from its shape, the number of its mapped chunks and that of its free units
-
-module _ (s : List ℕ) (z : Tested s) (g : Shape) (eg : g ≡ shapeOf s) (m : ℕ) (em : m ≡ mappedCount s) (free : ℕ) (e : free ≡ freeCount s) where
-  held-is : g .n - g .r - free ≡ heldCount s
-  held-is = rw (eg, e) (omega (arith, free-and-held s z))
-
-  -- no difference wraps, and no product: what `report_in` asks for
-  pub counts-fit : (g .r + free ≤ g .n) × ((g .n - g .r - free ≤ m * g .p) × (m * g .p < 4294967296))
-  counts-fit =
-      let l = fitting-limits s (z .fitting) in
-      let high = product-high (shapeOf s .p) (mappedCount s) (l .p-high) (omega (arith, mapped-most s, l .c-high)) in (
-        rw (eg, e) (omega (arith, free-and-held s z, l .r-high)),
-        (rw (held-is, em, eg) (held-most s), rw (eg, em) (omega arith)),
-      )
-
+module _ (g : Shape) (mapped free held saved : ℕ) (eh : held ≡ g .n - g .r - free) (es : saved ≡ mapped * g .p - held) where
   pub report-made :
-      (hr sr : Float) → hr ≡ ratio (g .n - g .r - free) (g .n)
-      → sr ≡ ratioIfMapped m (m * g .p - (g .n - g .r - free)) (m * g .p)
+      (hr sr : Float) → hr ≡ ratio held (g .n) → sr ≡ ratioIfMapped mapped saved (mapped * g .p)
       → _≡_ {A = Report} (record {
-        mapped = m;
-        held = g .n - g .r - free;
+        mapped = mapped;
+        held = held;
         free = free;
-        saved = m * g .p - (g .n - g .r - free);
+        saved = saved;
         «held_ratio» = hr;
         «saved_ratio» = sr;
-      }) (reportOf s)
-  unfolding reportOf
-  report-made hr sr eh es = rw (eh, es, em, held-is, e, eg)
+      }) (reportFrom g mapped free)
+  unfolding reportFrom
+  report-made hr sr er ep = rw (er, ep, es, eh)
+
+-- ---- of a sound image: what its sets of what is free count
+
+module _ (s : List ℕ) (z : Tested s) where
+  -- each mapped chunk names a map of its own
+  mapped-is : shapeOf s .m - length (freeMaps s) ≡ mappedCount s
+  unfolding mappedCount
+  mapped-is = omega (arith, free-and-named s z)
+
+  held-is : shapeOf s .n - shapeOf s .r - freeCount s ≡ heldCount s
+  held-is = omega (arith, free-and-held s z)
+
+  pub report-sound : reportOn (shapeOf s) (freeUnit s) (freeMap s) ≡ reportOf s
+  unfolding reportOn reportFrom reportOf freeUnits freeMaps
+  report-sound = rw (mapped-is, held-is)
+
+pub alarm-sound : (s : List ℕ) (level : Level) → alarmOn (shapeOf s) (freeUnit s) level ≡ alarmAt (freeCount s) (shapeOf s .n) level
+unfolding alarmOn freeUnits
+alarm-sound s level = refl
+
+-- ---- the sets that load leaves of a sound image, as tests
+
+module _ (s : List ℕ) (l : Loaded) (k : Known s l) where
+  pub report-known : reportOn (l .shape) (inSet (l .units)) (inSet (l .maps)) ≡ reportOf s
+  report-known = (λ i. reportOn (k .shape i) (units-test s (k .sound) (l .units) (k .units) i) (maps-test s (k .sound) (l .maps) (k .maps) i)) ∙ report-sound s (k .sound)
+
+  pub alarm-known : (level : Level) → alarmOn (l .shape) (inSet (l .units)) level ≡ alarmAt (freeCount s) (shapeOf s .n) level
+  alarm-known level = (λ i. alarmOn (k .shape i) (units-test s (k .sound) (l .units) (k .units) i) level) ∙ alarm-sound s level

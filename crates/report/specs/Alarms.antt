@@ -2,10 +2,13 @@
 use Prim.Native.Nat.{ℕ}
 use mathlib.Core.Bool.{Bool, false, cond, _||_}
 use mathlib.Core.List.{List}
+use lib.ListN.{length}
 use lib.IntN.{pos}
 use lib.Dec.{ltb}
 use lib.Ieee.{Float, fin, binary64, mul, ofInt, lt, isNan}
+use Rattle.search.specs.Search.{below, keep}
 use Rattle.layout.specs.declared.Refusal.the-variants.{BadAlarm}
+use Rattle.layout.specs.declared.Shape.{Shape}
 use Rattle.layout.specs.Layout.{shapeOf}
 use Rattle.image.specs.Verdicts.{verdict}
 use Rattle.image.specs.Answers.{ifSound}
@@ -37,6 +40,10 @@ soundsIf b = cond b Sounds Silent
 unfoldable pub alarmAt : ℕ → ℕ → Level → Alarm
 alarmAt free n (Count k) = soundsIf (ltb free k)
 alarmAt free n (Fraction x) = cond (badFraction x) (Refused BadAlarm) (soundsIf (lt (ofInt binary64 (pos free)) (product x n)))
+
+-- of any shape and any test of which units are free. With the test of a sound image it is that image's alarm (alarm-sound, in proofs/CountLaws.antt).
+unfoldable pub alarmOn : Shape → (ℕ → Bool) → Level → Alarm
+alarmOn g freeUnit level = alarmAt (length (keep freeUnit (below (g .n)))) (g .n) level
 
 -- what `alarm` answers; the image's own refusals come before 12
 abbrev pub alarmAnswer : List ℕ → Level → Alarm

@@ -1,11 +1,14 @@
 -- The report: "one record of four counts and two ratios".
-use Prim.Native.Nat.{ℕ}
-use mathlib.Core.Bool.{false, cond}
+use Prim.Native.Nat.{ℕ, _-_, _*_}
+use mathlib.Core.Bool.{Bool, false, cond}
 use mathlib.Core.List.{List}
+use lib.ListN.{length}
 use lib.Dec.{eqb}
 use lib.IntN.{pos}
 use lib.Ieee.{Float, fin, binary64, div, ofInt}
+use Rattle.search.specs.Search.{below, keep}
 use Rattle.layout.specs.declared.Refusal.{Refusal}
+use Rattle.layout.specs.declared.Shape.{Shape}
 use Rattle.layout.specs.Layout.{shapeOf}
 use Rattle.image.specs.declared.Verdict.the-variants.{Passed, Refused}
 use Rattle.image.specs.Verdicts.{verdict}
@@ -44,6 +47,25 @@ reportOf s = record {
   «held_ratio» = heldRatio s;
   «saved_ratio» = savedRatio s;
 }
+
+-- of any shape and any counts of mapped chunks and of free units: what is neither reserved nor free is held, and a difference that would be below 0 is 0
+unfoldable pub reportFrom : Shape → ℕ → ℕ → Report
+reportFrom g mapped free =
+    let held = g .n - g .r - free in
+    let raw = mapped * g .p in
+    record {
+      mapped = mapped;
+      held = held;
+      free = free;
+      saved = raw - held;
+      «held_ratio» = ratio held (g .n);
+      «saved_ratio» = ratioIfMapped mapped (raw - held) raw;
+    }
+
+-- of any shape and any tests of which units and which maps are free: mapped chunks are as many as the maps that are not free. With the tests of a sound
+-- image it is that image's report (report-sound, in proofs/CountLaws.antt).
+unfoldable pub reportOn : Shape → (ℕ → Bool) → (ℕ → Bool) → Report
+reportOn g freeUnit freeMap = reportFrom g (g .m - length (keep freeMap (below (g .m)))) (length (keep freeUnit (below (g .n))))
 
 -- the answer for a sound image
 abbrev pub passedReport : Report → Reported

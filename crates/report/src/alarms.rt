@@ -1,14 +1,17 @@
 // The alarm.
 use crate::Alarm;
 use crate::Level;
-use crate::counts::free_count;
+use bitset::count_below;
 use image::MAP_SET_WORDS;
 use image::Outcome;
 use image::UNIT_SET_WORDS;
 use layout::Refusal;
+use layout::Shape;
 use loader::load::load_into;
 ghost use mathlib.Core.Path.{_≡_};
-ghost use Rattle.report.specs.Alarms.{alarmAt, alarmAnswer};
+ghost use Prim.Native.Nat.{_^_, _<_};
+ghost use Rattle.bitset.specs.Bits.{inSet, limit};
+ghost use Rattle.report.specs.Alarms.{alarmAt, alarmOn, alarmAnswer};
 
 // Whether the alarm sounds at a fraction of n units, `free` of which are free.
 fn by_fraction(free: u32, n: u32, x: f64) -> Alarm
@@ -45,6 +48,16 @@ fn alarm_at(free: u32, n: u32, level: Level) -> Alarm
     }
 }
 
+// Whether the alarm of a volume of shape g sounds at a level, by a set of free units: any set, right or not.
+pub fn alarm_on(g: Shape, units: &[u64], level: Level) -> Alarm
+    requires { ⌜ limit (now units) < 2 ^ 64 ⌝ }
+    ensures { λ r. ⌜ r ≡ alarmOn g (inSet (now (units .entry))) level ⌝ }
+{
+    let n = g.n;
+    let free = count_below(units, n);
+    alarm_at(free, n, level)
+}
+
 // Whether the alarm of a volume sounds at a level.
 pub fn alarm(image: &[u8], level: Level) -> Alarm
     ensures { λ r. ⌜ r ≡ alarmAnswer (now (image .entry)) level ⌝ }
@@ -54,10 +67,6 @@ pub fn alarm(image: &[u8], level: Level) -> Alarm
     let o = load_into(image, &mut units, &mut maps);
     match o {
         Outcome::Refused(r) => Alarm::Refused(r),
-        Outcome::Sound(g) => {
-            let n = g.n;
-            let free = free_count(&units, n);
-            alarm_at(free, n, level)
-        }
+        Outcome::Sound(g) => alarm_on(g, &units, level),
     }
 }

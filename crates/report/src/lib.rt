@@ -1,6 +1,5 @@
 // The space report of a volume, and its alarm.
 pub mod alarms;
-mod counts;
 pub mod reports;
 
 use image::Verdict;

@@ -1,7 +1,7 @@
 // The space report.
 use crate::Report;
 use crate::Reported;
-use crate::counts::free_count;
+use bitset::count_below;
 use image::MAP_SET_WORDS;
 use image::Outcome;
 use image::UNIT_SET_WORDS;
@@ -10,13 +10,11 @@ use layout::Refusal;
 use layout::Shape;
 use loader::load::load_into;
 ghost use mathlib.Core.Path.{_≡_};
-ghost use Prim.Native.Nat.{ℕ, _+_, _-_, _*_, _<_, _≤_};
-ghost use mathlib.Core.List.{List};
-ghost use Rattle.layout.specs.Layout.{shapeOf};
-ghost use Rattle.image.specs.Claims.{Tested};
-ghost use Rattle.report.specs.Counts.{mappedCount, freeCount};
+ghost use Prim.Native.Nat.{_-_, _^_, _<_, _≤_};
+ghost use Rattle.bitset.specs.Bits.{inSet, limit};
+ghost use Rattle.layout.specs.Shaped.{Limits};
 ghost use Rattle.report.specs.Reports;
-ghost use Rattle.report.specs.Reports.{ratioIfMapped, reportOf, passedReport, refusedReport, reportAnswer};
+ghost use Rattle.report.specs.Reports.{ratioIfMapped, reportFrom, reportOn, passedReport, refusedReport, reportAnswer};
 
 // One rounded division of two counts.
 fn ratio(a: u32, b: u32) -> f64
@@ -35,19 +33,26 @@ fn saved_ratio(mapped: u32, saved: u32, raw: u32) -> f64
     ratio(saved, raw)
 }
 
-// The report on a sound image of shape g, with so many mapped chunks and free units.
+// One count less another, or 0 where that is larger.
+fn less(a: u32, b: u32) -> u32
+    ensures { λ r. ⌜ r ≡ a - b ⌝ }
+{
+    if a < b {
+        return 0;
+    }
+    a - b
+}
+
+// The report on a volume of shape g, with so many mapped chunks and free units.
 fn report_in(g: Shape, mapped: u32, free: u32) -> Report
-    requires { ⌜ g .r + free ≤ g .n ⌝ }
-    requires { ⌜ g .n - g .r - free ≤ mapped * g .p ⌝ }
-    requires { ⌜ mapped * g .p < 4294967296 ⌝ }
-    ensures { λ r. ⌜
-        ((s : List ℕ) → Tested s → g ≡ shapeOf s → mapped ≡ mappedCount s → free ≡ freeCount s → r ≡ reportOf s)
-        ⌝ }
+    requires { ⌜ (Limits g) × (mapped ≤ g .m) ⌝ }
+    ensures { λ r. ⌜ r ≡ reportFrom g mapped free ⌝ }
 {
     let n = g.n;
     let raw = mapped * g.p;
-    let held = n - g.r - free;
-    let saved = raw - held;
+    let unreserved = n - g.r;
+    let held = less(unreserved, free);
+    let saved = less(raw, held);
     let held_ratio = ratio(held, n);
     let saved_ratio = saved_ratio(mapped, saved, raw);
     Report {
@@ -60,8 +65,21 @@ fn report_in(g: Shape, mapped: u32, free: u32) -> Report
     }
 }
 
-// The answer for a sound image.
-fn passed(report: Report) -> Reported
+// The report on a volume of shape g, by sets of free units and of free maps: any sets, right or not.
+pub fn report_on(g: Shape, units: &[u64], maps: &[u64]) -> Report
+    requires { ⌜ Limits g ⌝ }
+    requires { ⌜ (limit (now units) < 2 ^ 64) × (limit (now maps) < 2 ^ 64) ⌝ }
+    ensures { λ r. ⌜ r ≡ reportOn g (inSet (now (units .entry))) (inSet (now (maps .entry))) ⌝ }
+{
+    let free = count_below(units, g.n);
+    // Each mapped chunk names a map of its own: they are as many as the maps that are not free.
+    let unnamed = count_below(maps, g.m);
+    let mapped = g.m - unnamed;
+    report_in(g, mapped, free)
+}
+
+// The answer where nothing is refused.
+pub fn passed(report: Report) -> Reported
     ensures { λ a. ⌜ a ≡ passedReport report ⌝ }
 {
     Reported {
@@ -71,7 +89,7 @@ fn passed(report: Report) -> Reported
 }
 
 // The answer for an image that is refused.
-fn refused(r: Refusal) -> Reported
+pub fn refused(r: Refusal) -> Reported
     ensures { λ a. ⌜ a ≡ refusedReport r ⌝ }
 {
     Reported {
@@ -97,11 +115,7 @@ pub fn report(image: &[u8]) -> Reported
     match o {
         Outcome::Refused(r) => refused(r),
         Outcome::Sound(g) => {
-            let free = free_count(&units, g.n);
-            // Each mapped chunk names a map of its own: they are as many as the maps that are not free.
-            let unnamed = free_count(&maps, g.m);
-            let mapped = g.m - unnamed;
-            let report = report_in(g, mapped, free);
+            let report = report_on(g, &units, &maps);
             passed(report)
         }
     }

@@ -1,11 +1,9 @@
--- `report::reports::report` meets its contract: the sets that were lent count the free units and the maps that no chunk names.
+-- `report::reports::report` meets its contract: the sets that were lent are those of the free units and of the free maps of a sound image.
 use mathlib.Core.Path.{ap, _∙_}
-use denote.Ref.{now}
 use borrow.Author.Needs.{needs}
 use Rattle.image.proofs.Loads.{into-known, outcome-answer-refused, outcome-answer-sound}
-use Rattle.image.proofs.FreeSets.{units-within, maps-within}
-use Rattle.report.proofs.CountLaws.{counts-fit, units-fit, maps-fit, units-counted, maps-counted}
 use Rattle.report.specs.Reports.{passedReport}
+use Rattle.report.proofs.CountLaws.{report-known}
 use Rattle.report.proofs.reports.report.Statement.{statement}
 use Rattle.report.proofs.reports.report.Tie as tie
 
@@ -27,62 +25,30 @@ refused-requires c κs = search needs
 enum-known-o-2 : tie.Need-enum-known-o-2
 enum-known-o-2 c = search needs
 
-slice-aggregate-free-count : tie.Need-slice-aggregate-free-count
-slice-aggregate-free-count c = search needs
+slice-aggregate-report-on : tie.Need-slice-aggregate-report-on
+slice-aggregate-report-on c = search needs
 
-free-count-requires : tie.Need-free-count-requires
-free-count-requires c κs =
-    let s = now (c .before .before .before .before .before .before .before .before .before .before .args .image) in
-    let o = c .before .before .before .before .before .before .load-into .ensures in
-    let k = into-known s _ _ _ o _ (c .before .before .o2 .given .1) in
-    (units-fit s _ k, units-within s _ k)
+slice-aggregate-report-on-2 : tie.Need-slice-aggregate-report-on-2
+slice-aggregate-report-on-2 c = search needs
 
-slice-aggregate-free-count-2 : tie.Need-slice-aggregate-free-count-2
-slice-aggregate-free-count-2 c = search needs
-
-free-count-requires-2 : tie.Need-free-count-requires-2
-free-count-requires-2 c κs =
-    let s = now (c .before .before .before .before .before .before .before .before .before .before .before .before .args .image) in
-    let o = c .before .before .before .before .before .before .before .before .load-into .ensures in
-    let k = into-known s _ _ _ o _ (c .before .before .before .before .o2 .given .1) in
-    (maps-fit s _ k, maps-within s _ k)
-
-sub-mapped : tie.Need-sub-mapped
-sub-mapped c =
-    let s = now (c .before .before .before .before .before .before .before .before .before .before .before .before .before .before .args .image) in
-    let o = c .before .before .before .before .before .before .before .before .before .before .load-into .ensures in
-    let k = into-known s _ _ _ o _ (c .before .before .before .before .before .before .o2 .given .1) in
-    maps-counted s _ k _ (c .before .free-count2 .ensures) .0
-
-report-in-requires : tie.Need-report-in-requires
-report-in-requires c κs =
-    let s = now (c .before .before .before .before .before .before .before .before .before .before .before .before .before .before .args .image) in
-    let o = c .before .before .before .before .before .before .before .before .before .before .load-into .ensures in
-    let k = into-known s _ _ _ o _ (c .before .before .before .before .before .before .o2 .given .1) in
-    let mapped = maps-counted s _ k _ (c .before .free-count2 .ensures) .1 in
-    let free = units-counted s _ k _ (c .before .before .before .free-count .ensures) in
-    counts-fit s (k .sound) _ (k .shape) _ mapped _ free
+report-on-requires : tie.Need-report-on-requires
+report-on-requires c κs =
+    let s = c .before .before .before .before .before .before .before .before .before .before .before .args .image .now in
+    let k = into-known s _ _ _ (c .before .before .before .before .before .before .before .load-into .ensures) _ (c .before .before .before .o2 .given .1) in
+    (k .shaped .limits, (search needs, search needs))
 
 passed-requires : tie.Need-passed-requires
 passed-requires c κs = search needs
 
 returns : tie.Need-returns
-returns c =
-    let s = now (c .before .before .before .before .before .before .before .before .before .before .args .image) in
-    c .refused .ensures
-    ∙ outcome-answer-refused s _ (c .before .before .before .before .before .before .load-into .ensures .right) _ _ _ (c .before .before .o .given .1)
+returns c = c .refused .ensures ∙ outcome-answer-refused (c .before .before .before .before .before .before .before .before .before .before .args .image .now) _ (c .before .before .before .before .before .before .load-into .ensures .right) _ _ _ (c .before .before .o .given .1)
 
 returns-2 : tie.Need-returns-2
 returns-2 c =
-    let a = c .before .before .before .before .before .before .before .before .before .before .before .before .before .before .before .before .args in
-    let s = now (a .image) in
-    let o = c .before .before .before .before .before .before .before .before .before .before .before .before .load-into .ensures in
-    let h = c .before .before .before .before .before .before .before .before .o2 .given .1 in
-    let k = into-known s _ _ _ o _ h in
-    let mapped = maps-counted s _ k _ (c .before .before .before .free-count2 .ensures) .1 in
-    let free = units-counted s _ k _ (c .before .before .before .before .before .free-count .ensures) in
-    c .passed .ensures
-    ∙ ap passedReport (c .before .report-in .ensures s (k .sound) (k .shape) mapped free)
+    let s = c .before .before .before .before .before .before .before .before .before .before .before .before .before .args .image .now in
+    let o = c .before .before .before .before .before .before .before .before .before .load-into .ensures in
+    let h = c .before .before .before .before .before .o2 .given .1 in
+    c .passed .ensures ∙ ap passedReport (c .before .report-on .ensures ∙ report-known s _ (into-known s _ _ _ o _ h))
     ∙ outcome-answer-sound s _ (o .right) _ _ _ h
 
 pub report-spec : {M : Type 1} → statement M
@@ -95,12 +61,9 @@ report-spec =
     enum-known-o
     refused-requires
     enum-known-o-2
-    slice-aggregate-free-count
-    free-count-requires
-    slice-aggregate-free-count-2
-    free-count-requires-2
-    sub-mapped
-    report-in-requires
+    slice-aggregate-report-on
+    slice-aggregate-report-on-2
+    report-on-requires
     passed-requires
     returns
     returns-2)
