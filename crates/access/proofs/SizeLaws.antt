@@ -1,24 +1,22 @@
 -- Laws of a chunk's stored size.
 use Prim.Native.Nat.{ℕ, _*_, _<_, _≤_}
-use mathlib.Core.Path.{_≡_, ap, sym, _∙_}
+use mathlib.Core.Path.{_≡_, refl, ap, sym, _∙_}
 use mathlib.Core.List.{List}
 use native.Mathlib.Omega.{arith}
 use lib.ListN.{length, getD}
 use borrow.Author.Tests.{lt-ltb, le-ltb, eq-eqb, ne-eqb}
 use Rattle.layout.specs.declared.Shape.{Shape}
-use Rattle.layout.specs.declared.Refusal.{Refusal}
 use Rattle.layout.specs.declared.Refusal.the-variants.{Range}
 use Rattle.layout.specs.Layout.{X, unitBytes, head, shapeOf, linkOf}
 use Rattle.layout.specs.Shaped.{Shaped, mapOf}
-use Rattle.image.specs.declared.Verdict.the-variants.{Refused}
 use Rattle.image.specs.Soundness.{Named}
 use Rattle.image.specs.Stored.{storedSize}
 use Rattle.image.specs.Verdicts.{verdict}
 use Rattle.image.specs.Claims.{heldIn}
+use Rattle.image.specs.Answers.{ifSound}
 use Rattle.image.proofs.Chunks.{not-mapped, is-mapped, units-named}
-use Rattle.image.proofs.Loads.{KnownShape}
 use Rattle.access.specs.declared.Stored.the-variants.{Size, Refused as NotStored}
-use Rattle.access.specs.Sizes.{sizeAnswer}
+use Rattle.access.specs.Sizes.{sizeOn, sizeAnswer}
 
 -- ---- chunk i, whose entry is w
 
@@ -42,17 +40,22 @@ module _ (s : List ℕ) (g : Shape) (i w : ℕ) (h : Shaped s g) (ew : w ≡ lin
     unfolding storedSize
     size-told z = rw (is-mapped s i named, ne-eqb (head (shapeOf s)) 0 (λ q. z (sym heads ∙ q)), ew)
 
--- ---- the answers, by what the check said of the image
+-- ---- the answers on chunk i
 
-pub size-refused : (s : List ℕ) (i : ℕ) (r : Refusal) → verdict s ≡ Refused r → NotStored r ≡ sizeAnswer s i
-size-refused s i r e = rw e
+-- behind the verdict on the image
+pub size-judged : (s : List ℕ) (i : ℕ) → sizeAnswer s i ≡ ifSound (verdict s) NotStored (sizeOn s i)
+unfolding sizeOn
+size-judged s i = refl
 
-module _ (s : List ℕ) (g : Shape) (k : KnownShape s g) (i : ℕ) where
+-- where the image is not judged again
+module _ (s : List ℕ) (g : Shape) (h : Shaped s g) (i : ℕ) where
   chunks : g .c ≡ shapeOf s .c
-  chunks = ap (λ (h : Shape). h .c) (k .shape)
+  chunks = ap (λ (q : Shape). q .c) (h .same)
 
-  pub size-in : i < g .c → (n : ℕ) → n ≡ storedSize s i → Size n ≡ sizeAnswer s i
-  size-in b n e = rw (k .passed, lt-ltb i (shapeOf s .c) (omega (arith, chunks)), e)
+  pub size-in : i < g .c → (n : ℕ) → n ≡ storedSize s i → Size n ≡ sizeOn s i
+  unfolding sizeOn
+  size-in b n e = rw (lt-ltb i (shapeOf s .c) (omega (arith, chunks)), e)
 
-  pub size-out : g .c ≤ i → NotStored Range ≡ sizeAnswer s i
-  size-out b = rw (k .passed, le-ltb i (shapeOf s .c) (omega (arith, chunks)))
+  pub size-out : g .c ≤ i → NotStored Range ≡ sizeOn s i
+  unfolding sizeOn
+  size-out b = rw (le-ltb i (shapeOf s .c) (omega (arith, chunks)))

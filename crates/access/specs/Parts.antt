@@ -4,6 +4,7 @@ use mathlib.Core.Bool.{cond}
 use mathlib.Core.List.{List}
 use lib.ListN.{length, take, drop}
 use lib.Dec.{ltb}
+use Rattle.layout.specs.declared.Refusal.{Refusal}
 use Rattle.layout.specs.declared.Refusal.the-variants.{Range}
 use Rattle.layout.specs.Layout.{head, shapeOf, linkOf, mapWordPlace}
 use Rattle.image.specs.Soundness.{mapped, unitsOf}
@@ -41,6 +42,14 @@ heldExtent s i = ifAnswered (heldStatus s i) (heldWords s i)
 -- both at once, as one load finds them
 abbrev pub heldOf : List ℕ → ℕ → Held
 heldOf s i = record { status = heldStatus s i; extent = heldExtent s i }
+
+-- a refusal, with no part
+abbrev pub notHeld : Refusal → Held
+notHeld r = record { status = Denied r; extent = emptyExtent }
+
+-- the answer on a chunk where the image is not judged again; of a sound image it is `heldOf` (held-judged, in proofs/PartLaws.antt)
+unfoldable pub heldOn : List ℕ → ℕ → Held
+heldOn s i = cond (ltb i (shapeOf s .c)) (record { status = Answered; extent = heldWords s i }) (notHeld Range)
 
 -- "that part of the caller's own image"
 abbrev pub part : List ℕ → Extent → List ℕ

@@ -14,3 +14,7 @@ use Rattle.access.specs.declared.Stored.the-variants.{Size, Refused as N
 -- 7 is "chunk not below C"
 abbrev pub sizeAnswer : List ℕ → ℕ → Stored
 sizeAnswer s i = ifSound (verdict s) NotStored (cond (ltb i (shapeOf s .c)) (Size (storedSize s i)) (NotStored Range))
+
+-- the answer where the image is not judged again; of a sound image it is `sizeAnswer` (size-judged, in proofs/SizeLaws.antt)
+unfoldable pub sizeOn : List ℕ → ℕ → Stored
+sizeOn s i = cond (ltb i (shapeOf s .c)) (Size (storedSize s i)) (NotStored Range)

@@ -16,9 +16,9 @@ ghost use Prim.Native.Nat.{_<_, _≤_};
 ghost use lib.ListN.{length};
 ghost use Rattle.layout.specs.Shaped.{Shaped};
 ghost use Rattle.image.specs.Verdicts.{goodLink};
-ghost use Rattle.access.specs.Parts.{heldWords, heldExtent, heldPart, heldStatus, heldOf};
+ghost use Rattle.access.specs.Parts.{heldWords, heldExtent, heldPart, heldStatus, notHeld, heldOn, heldOf};
 
-// Where the held words of chunk i's map stand, in a sound image.
+// Where the held words of chunk i's map stand, in an image of shape g, where the chunk's entry is good.
 fn held_words(image: &[u8], g: Shape, i: usize) -> Extent
     requires { ⌜ Shaped (now image) g ⌝ }
     requires { ⌜ (i < g .c) × (goodLink (now image) i ≡ true) ⌝ }
@@ -35,33 +35,44 @@ fn held_words(image: &[u8], g: Shape, i: usize) -> Extent
     Extent { start, end }
 }
 
-// A chunk's held words, for any image and chunk number: whether the question is answered, and where they stand. One check of the image serves both.
+// What a refusal answers: no part of the image.
+pub fn denied(r: Refusal) -> Held
+    ensures { λ h. ⌜ h ≡ notHeld r ⌝ }
+{
+    Held {
+        status: Status::Refused(r),
+        extent: Extent { start: 0, end: 0 },
+    }
+}
+
+// A chunk's held words in an image of shape g, for any chunk number: whether the question is answered, and where they stand.
+pub fn held_on(image: &[u8], g: Shape, chunk: u64) -> Held
+    requires { ⌜ Shaped (now image) g ⌝ }
+    requires { ⌜ (chunk < g .c → goodLink (now image) chunk ≡ true) ⌝ }
+    ensures { λ r. ⌜
+        (r ≡ heldOn (now (image .entry)) chunk) × (r .extent .start ≤ r .extent .end) × (r .extent .end ≤ length (now (image .entry)))
+        ⌝ }
+{
+    if chunk < g.c as u64 {
+        let extent = held_words(image, g, chunk as usize);
+        return Held {
+            status: Status::Answered,
+            extent,
+        };
+    }
+    denied(Refusal::Range)
+}
+
+// The same for any image: one check of it serves status and extent.
 pub fn find_held(image: &[u8], chunk: u64) -> Held
     ensures { λ r. ⌜
         (r ≡ heldOf (now (image .entry)) chunk) × (r .extent .start ≤ r .extent .end) × (r .extent .end ≤ length (now (image .entry)))
         ⌝ }
 {
-    let none = Extent { start: 0, end: 0 };
     let o = check_image(image);
     match o {
-        Outcome::Refused(r) => Held {
-            status: Status::Refused(r),
-            extent: none,
-        },
-        Outcome::Sound(g) => {
-            let c = g.c as u64;
-            if chunk < c {
-                let extent = held_words(image, g, chunk as usize);
-                return Held {
-                    status: Status::Answered,
-                    extent,
-                };
-            }
-            Held {
-                status: Status::Refused(Refusal::Range),
-                extent: none,
-            }
-        }
+        Outcome::Refused(r) => denied(r),
+        Outcome::Sound(g) => held_on(image, g, chunk),
     }
 }
 

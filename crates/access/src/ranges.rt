@@ -160,8 +160,8 @@ fn covers(b: u64, write: bool, span: u64) -> bool
     false
 }
 
-// What a piece of a sound image of shape g reads first.
-fn access_in(image: &[u8], g: Shape, write: bool, offset: u64, span: u64) -> Access
+// What a piece reads first, in an image of shape g.
+pub fn access_on(image: &[u8], g: Shape, write: bool, offset: u64, span: u64) -> Access
     requires { ⌜ Shaped (now image) g ⌝ }
     ensures { λ r. ⌜ r ≡ readsFirst g (mapped (now (image .entry))) write offset span ⌝ }
 {
@@ -191,6 +191,6 @@ pub fn access(image: &[u8], write: bool, offset: u64, span: u64) -> Access
     let o = check_image(image);
     match o {
         Outcome::Refused(r) => Access::Refused(r),
-        Outcome::Sound(g) => access_in(image, g, write, offset, span),
+        Outcome::Sound(g) => access_on(image, g, write, offset, span),
     }
 }

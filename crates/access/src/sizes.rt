@@ -16,9 +16,9 @@ ghost use Prim.Native.Nat.{_<_};
 ghost use Rattle.layout.specs.Shaped.{Shaped};
 ghost use Rattle.image.specs.Stored.{storedSize};
 ghost use Rattle.image.specs.Verdicts.{goodLink};
-ghost use Rattle.access.specs.Sizes.{sizeAnswer};
+ghost use Rattle.access.specs.Sizes.{sizeOn, sizeAnswer};
 
-// The stored size of chunk i, in a sound image.
+// The stored size of chunk i, in an image of shape g, where the chunk's entry is good.
 fn size_in(image: &[u8], g: Shape, i: usize) -> u64
     requires { ⌜ Shaped (now image) g ⌝ }
     requires { ⌜ (i < g .c) × (goodLink (now image) i ≡ true) ⌝ }
@@ -35,19 +35,25 @@ fn size_in(image: &[u8], g: Shape, i: usize) -> u64
     map_word(image, g, k, 0)
 }
 
-// A chunk's stored size, for any image and chunk number; 0 for an unmapped chunk.
+// A chunk's stored size in an image of shape g, for any chunk number; 0 for an unmapped chunk.
+pub fn size_on(image: &[u8], g: Shape, chunk: u64) -> Stored
+    requires { ⌜ Shaped (now image) g ⌝ }
+    requires { ⌜ (chunk < g .c → goodLink (now image) chunk ≡ true) ⌝ }
+    ensures { λ r. ⌜ r ≡ sizeOn (now (image .entry)) chunk ⌝ }
+{
+    if chunk < g.c as u64 {
+        return Stored::Size(size_in(image, g, chunk as usize));
+    }
+    Stored::Refused(Refusal::Range)
+}
+
+// The same for any image.
 pub fn stored_size(image: &[u8], chunk: u64) -> Stored
     ensures { λ r. ⌜ r ≡ sizeAnswer (now (image .entry)) chunk ⌝ }
 {
     let o = check_image(image);
     match o {
         Outcome::Refused(r) => Stored::Refused(r),
-        Outcome::Sound(g) => {
-            let c = g.c as u64;
-            if chunk < c {
-                return Stored::Size(size_in(image, g, chunk as usize));
-            }
-            Stored::Refused(Refusal::Range)
-        }
+        Outcome::Sound(g) => size_on(image, g, chunk),
     }
 }

@@ -1,4 +1,4 @@
--- `access::ranges::access` meets its contract: the refusal of the image, or what `access_in` answers.
+-- `access::ranges::access` meets its contract: the refusal of the image, or what `access_on` answers.
 use Rattle.access.proofs.AnswerLaws.{reads-passed}
 use Rattle.image.proofs.Loads.{outcome-answer-refused, outcome-known}
 use borrow.Author.Needs.{needs}
@@ -14,8 +14,8 @@ enum-known-o c = search needs
 enum-known-o-2 : tie.Need-enum-known-o-2
 enum-known-o-2 c = search needs
 
-access-in-requires : tie.Need-access-in-requires
-access-in-requires c κs =
+access-on-requires : tie.Need-access-on-requires
+access-on-requires c κs =
     let a = c .before .before .before .before .before .args in
     let o = c .before .before .before .check-image in
     outcome-known (a .image .now) _ (o .ensures) _ (c .before .o2 .given .1) .shaped
@@ -31,7 +31,7 @@ returns-2 c =
     let a = c .before .before .before .before .before .before .args in
     let o = c .before .before .before .before .check-image in
     let k = outcome-known (a .image .now) _ (o .ensures) _ (c .before .before .o2 .given .1) in
-    reads-passed (a .image .now) _ (a .write) (a .offset) (a .span) (k .passed) (k .shape) _ (c .access-in .ensures)
+    reads-passed (a .image .now) _ (a .write) (a .offset) (a .span) (k .passed) (k .shape) _ (c .access-on .ensures)
 
 pub access-spec : {M : Type 1} → statement M
 access-spec =
@@ -40,6 +40,6 @@ access-spec =
     check-image-requires
     enum-known-o
     enum-known-o-2
-    access-in-requires
+    access-on-requires
     returns
     returns-2)

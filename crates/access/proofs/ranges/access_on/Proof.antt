@@ -1,4 +1,4 @@
--- `access::ranges::access_in` meets its contract: one law of AnswerLaws for each return, in the order of the tests.
+-- `access::ranges::access_on` meets its contract: one law of AnswerLaws for each return, in the order of the tests.
 use Prim.Native.Nat.{_/_}
 use mathlib.Core.Bool.{true}
 use mathlib.Core.Path.{_≡_, sym, _∙_}
@@ -11,8 +11,8 @@ use Rattle.image.specs.Soundness.{mapped}
 use Rattle.access.specs.Ranges.{goodRange}
 use Rattle.access.proofs.AnswerLaws.{reads-bad, reads-across, reads-nothing, reads-zeros, reads-chunk}
 use Rattle.access.proofs.RangeLaws.{Good, good}
-use Rattle.access.proofs.ranges.access_in.Statement.{statement}
-use Rattle.access.proofs.ranges.access_in.Tie as tie
+use Rattle.access.proofs.ranges.access_on.Statement.{statement}
+use Rattle.access.proofs.ranges.access_on.Tie as tie
 
 -- past the first test the range is good
 goods : (c : tie.Else1) → goodRange (c .before .before .before .args .g) (c .before .before .before .args .offset) (c .before .before .before .args .span) ≡ true
@@ -77,8 +77,8 @@ returns-5 c =
     let i = c .before .before .before .before .before .before .before .before .before .args .offset / c .before .before .before .before .before .chunk-bytes .result in
     reads-chunk (a .g) (mapped (now (a .image))) (a .write) (a .offset) (a .span) (goods (c .before .before .before .before .before .before)) _ (c .before .before .before .before .before .chunk-bytes .ensures .0) (c .before .before .before .before .if2 .left) (sym (c .before .before .before .covers .ensures) ∙ c .before .before .if3 .left) (is-mapped (now (a .image)) i (λ e. c .if4 .left (c .before .link .ensures ∙ e)))
 
-pub access-in-spec : {M : Type 1} → statement M
-access-in-spec =
+pub access-on-spec : {M : Type 1} → statement M
+access-on-spec =
     tie.close
     (tie.spec
     good-range-requires
