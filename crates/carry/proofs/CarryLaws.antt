@@ -1,11 +1,11 @@
 -- What carrying out one step does to an image of a known shape: the shape stays, one word is set, and every other stays.
-use Prim.Native.Nat.{ℕ, _+_, _*_, _/_, _≤_, _<_}
+use Prim.Native.Nat.{ℕ, zero, suc, _+_, _*_, _/_, _≤_, _<_}
 use mathlib.Core.Path.{_≡_, refl, sym, ap, _∙_, subst}
 use mathlib.Core.Logic.{_≢_}
 use mathlib.Core.Bool.{true, _&&_}
-use mathlib.Core.List.{List}
+use mathlib.Core.List.{List, [], _∷_}
 use native.Mathlib.Omega.{arith}
-use lib.ListN.{length, getD, drop}
+use lib.ListN.{length, getD, take, drop}
 use lib.Dec.{ltb}
 use borrow.Author.Tests.{ltb-true}
 use Rattle.search.proofs.Bools.{and-left, and-right, contradict}
@@ -24,9 +24,10 @@ use Rattle.steps.specs.declared.Step.the-variants.{Data, Map, Link, Fence}
 use Rattle.steps.specs.declared.Decoded.{Decoded}
 use Rattle.steps.specs.declared.Decoded.the-variants.{Whole, Malformed}
 use Rattle.steps.specs.Steps.{wordOf}
+use Rattle.steps.specs.Encodable.{Each}
 use Rattle.rules.specs.Rules.{valueBelow, wordInRange, inRange, wholeInRange}
-use Rattle.rules.proofs.StepLaws.{word-small}
-use Rattle.carry.specs.Carry.{carry, Misses}
+use Rattle.rules.proofs.StepLaws.{InRange, word-small}
+use Rattle.carry.specs.Carry.{carry, carryAll, Misses}
 use Rattle.carry.specs.Carrying.{carryDecoded}
 
 value-fits : (b : ℕ) (v : Value) → b ≤ X → valueBelow b v ≡ true → wordOf v ≤ X
@@ -121,3 +122,15 @@ module _ (g : Shape) where
 
     pub carried-link : (i : ℕ) (v : Value) → inRange g (Link i v) ≡ true → wordAt (carry s (Link i v)) i ≡ wordOf v
     carried-link i v h = wordAt-same g s o i (wordOf v) (link-in i v h) (link-fits i v h (on-limits o))
+
+-- ---- the first n steps, one after the other
+
+pub each-take : (P : Step → Type 0) (n : ℕ) (xs : List Step) → Each P xs → Each P (take n xs)
+each-take P zero xs h = tt
+each-take P (suc n) [] h = tt
+each-take P (suc n) (x ∷ xs) h = (h .0, each-take P n xs (h .1))
+
+pub all-on : (g : Shape) (s : List ℕ) (xs : List Step) → On g s → Each (InRange g) xs → On g (carryAll s xs)
+unfolding carryAll
+all-on g s [] o r = o
+all-on g s (x ∷ xs) o r = all-on g (carry s x) xs (on-carry g s o x (r .0)) (r .1)

@@ -1,4 +1,5 @@
 pub mod CarryLaws
 pub mod Turns
 pub mod AnswerLaws
+pub mod Linked
 pub mod Theorems

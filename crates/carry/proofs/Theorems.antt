@@ -1,5 +1,5 @@
 -- The theorems of this crate that a reader wants: nothing else cites them. What a whole accepted plan makes of the chunks is proved in crate durable.
-use Prim.Native.Nat.{ℕ, zero, suc, _/_, _≤_}
+use Prim.Native.Nat.{ℕ, _/_, _≤_}
 use native.Mathlib.Omega.{arith}
 use mathlib.Core.Path.{_≡_, refl, sym, ap, _∙_}
 use mathlib.Core.List.{List, [], _∷_}
@@ -20,22 +20,12 @@ use Rattle.rules.specs.Rules.{checked}
 use Rattle.rules.proofs.StepLaws.{InRange, each-in-range}
 use Rattle.rules.proofs.Accepting.{accepted-of}
 use Rattle.carry.specs.Carry.{carry, carryAll, carried, Misses, carryAnswer, leftBy, carryImage}
-use Rattle.carry.proofs.CarryLaws.{on-carry, byte-miss, carry-trailer}
+use Rattle.carry.proofs.CarryLaws.{each-take, all-on, on-carry, byte-miss, carry-trailer}
 use Rattle.carry.proofs.AnswerLaws.{answer-accepted, accepted-answer}
-
-each-take : (P : Step → Type 0) (n : ℕ) (xs : List Step) → Each P xs → Each P (take n xs)
-each-take P zero xs h = tt
-each-take P (suc n) [] h = tt
-each-take P (suc n) (x ∷ xs) h = (h .0, each-take P n xs (h .1))
 
 -- ---- steps in range, one after the other, on an image of shape g
 
 module _ (g : Shape) where
-  all-on : (s : List ℕ) (xs : List Step) → On g s → Each (InRange g) xs → On g (carryAll s xs)
-  unfolding carryAll
-  all-on s [] o r = o
-  all-on s (x ∷ xs) o r = all-on (carry s x) xs (on-carry g s o x (r .0)) (r .1)
-
   all-trailer : (s : List ℕ) (xs : List Step) → On g s → Each (InRange g) xs → drop (trailerStart g) (carryAll s xs) ≡ drop (trailerStart g) s
   unfolding carryAll
   all-trailer s [] o r = refl

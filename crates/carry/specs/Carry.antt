@@ -1,10 +1,11 @@
 -- Carrying out the first n steps of a plan: what it answers, and every byte of the image afterwards.
 use Prim.Native.Nat.{ℕ}
 use mathlib.Core.Logic.{_≢_}
-use mathlib.Core.Bool.{cond}
+use mathlib.Core.Bool.{Bool, true, false, cond}
 use mathlib.Core.List.{List, [], _∷_}
 use lib.Dec.{ltb}
 use lib.ListN.{take}
+use Rattle.search.specs.Search.{below, any}
 use Rattle.layout.specs.declared.Shape.{Shape}
 use Rattle.layout.specs.declared.Refusal.the-variants.{Range}
 use Rattle.layout.specs.Layout.{shapeOf, putWord, mapWordPlace}
@@ -12,8 +13,10 @@ use Rattle.image.specs.Verdicts.{verdict}
 use Rattle.image.specs.Answers.{ifSound}
 use Rattle.steps.specs.declared.Step.{Step}
 use Rattle.steps.specs.declared.Step.the-variants.{Data, Map, Link, Fence}
+use Rattle.steps.specs.declared.Decoded.{Decoded}
+use Rattle.steps.specs.declared.Decoded.the-variants.{Whole, Malformed}
 use Rattle.steps.specs.declared.Request.{Request}
-use Rattle.steps.specs.Steps.{wordOf, stepsOf, wholeSteps}
+use Rattle.steps.specs.Steps.{wordOf, decodeAt, stepsOf, wholeSteps}
 use Rattle.rules.specs.declared.Checked.{Checked}
 use Rattle.rules.specs.declared.Checked.the-variants.{Accepted, Refused as Denied}
 use Rattle.rules.specs.Rules.{Known, knownOf, judged}
@@ -35,6 +38,18 @@ carryAll s (x ∷ xs) = carryAll (carry s x) xs
 -- after the first n steps of a plan
 unfoldable pub carried : List ℕ → List ℕ → ℕ → List ℕ
 carried s plan n = carryAll s (take n (stepsOf plan))
+
+-- what the bytes of a step say is a LINK
+abbrev pub saysLink : Decoded → Bool
+saysLink (Whole (Data u j w)) = false
+saysLink (Whole (Map k j v)) = false
+saysLink (Whole (Link i v)) = true
+saysLink (Whole Fence) = false
+saysLink Malformed = false
+
+-- a LINK is among the first n steps of a plan
+unfoldable pub linkWithin : List ℕ → ℕ → Bool
+linkWithin plan n = any (λ i. saysLink (decodeAt plan i)) (below n)
 
 -- "and no other byte": a step does not store word q of an image of shape g; bytes 8·q to 8·q+7 are that word's
 abbrev pub Misses : Shape → ℕ → Step → Type 0

@@ -2,25 +2,28 @@
 use Prim.Native.Nat.{ℕ, _+_, _-_, _*_, _/_, _%_, _≤_, _<_}
 use mathlib.Core.Path.{_≡_, sym, ap, _∙_, subst}
 use mathlib.Core.Logic.{_≢_}
-use mathlib.Core.Bool.{Bool, _&&_, _||_, cond}
+use mathlib.Core.Bool.{Bool, not, _&&_, _||_, cond}
 use mathlib.Core.List.{List}
 use native.Mathlib.Omega.{arith}
 use lib.ListN.{length, getD, drop}
-use lib.Dec.{eqb, leb}
+use lib.Dec.{eqb, ltb, leb}
 use lib.Arith.{digits-lt, digits-div, digits-mod}
 use Rattle.words.specs.Words.{number, digits}
 use Rattle.words.proofs.Laws.{length-digits, length-store, number-ext}
 use Rattle.words.proofs.Store.{Outside, getD-sets-outside, number-store-apart, number-store-same, drop-store}
 use Rattle.layout.specs.declared.Shape.{Shape}
 use Rattle.layout.specs.Layout.{X, firstEdition, lastEdition, maxWords, taggedAt, knownAs, editionOf, reservedAt, agreeing, spareZero, mapBytes, trailerBytes, trailerStart, trailerAt, withinLimits, imageBytes, mapWords, shapeOf, known, fitting, wordAt, putWord, mapWordPlace}
+use Rattle.layout.specs.declared.Refusal.the-variants.{Short, Foreign, Geometry}
+use Rattle.layout.specs.declared.Trailer.the-variants.{Fits, Refused}
+use Rattle.layout.specs.Trailer.{trailerOutcome}
 use Rattle.layout.proofs.Limits.{edition-some, maps-high, known-as, shape-edition, fitting-limits, fitting-length}
 use Rattle.layout.specs.Shaped.{Limits, On, wordCount}
 
 -- ---- two images with one trailer
 
-record Alike (s t : List ℕ) : Type 0 where
-  size : length t ≡ length s
-  tail : (i : ℕ) → trailerAt (editionOf s) s ≤ i → getD t i 0 ≡ getD s i 0
+pub record Alike (s t : List ℕ) : Type 0 where
+  pub size : length t ≡ length s
+  pub tail : (i : ℕ) → trailerAt (editionOf s) s ≤ i → getD t i 0 ≡ getD s i 0
 
 module _ (s t : List ℕ) (a : Alike s t) where
   -- read as an edition whose trailer is no longer
@@ -73,6 +76,14 @@ module _ (s t : List ℕ) (a : Alike s t) where
       && (eqb (field 4 20 i) (trailerStart g) && eqb (field 4 24 i) (mapBytes g) && eqb (field 4 28 i) (imageBytes g)
       && eqb (a .size i) (imageBytes g))
       && (eqb (g .edition) firstEdition || eqb (field 4 36 i) 0)
+
+  -- rows 1 to 3 are the trailer's alone
+  pub alike-outcome : trailerOutcome t ≡ trailerOutcome s
+  unfolding trailerOutcome
+  alike-outcome =
+      λ i.
+      cond (ltb (a .size i) (trailerBytes firstEdition)) (Refused Short)
+      (cond (not (alike-known i)) (Refused Foreign) (cond (not (alike-fitting i)) (Refused Geometry) (Fits (alike-shape i))))
 
 -- ---- a word is stored
 
