@@ -6,7 +6,7 @@ use mathlib.Core.Bool.{true}
 use mathlib.Core.List.{List, map}
 use Rattle.layout.specs.declared.Shape.{Shape}
 use Rattle.search.specs.Search.{member}
-use Rattle.layout.specs.Layout.{mapWords, shapeOf, linkOf, mapWordPlace}
+use Rattle.layout.specs.Layout.{mapWords, shapeOf, linkOf, wordAt, mapWordPlace}
 use Rattle.image.specs.Soundness.{mapped, unitsOf}
 use Rattle.search.proofs.Bools.{contradict}
 use Rattle.search.proofs.Members.{member-nil}
@@ -45,12 +45,13 @@ module _ {A : Type 0} where
     pub left-on : On g (left-by .image)
     left-on = on-settle e g 0 xs v o (k .range)
 
+    pub named-word : (i j : ℕ) → i < g .c → mapped (v .image) i ≡ true → j < mapWords g
+        → wordAt (left-by .image) (mapWordPlace g (linkOf (v .image) i) j) ≡ wordAt (v .image) (mapWordPlace g (linkOf (v .image) i) j)
+    named-word i j b m h = keep-word e g (mapWordPlace g (linkOf (v .image) i) j) 0 xs v o (k .range) (k .maps i j b m h)
+
     module _ (i : ℕ) (b : i < g .c) (l : linkOf (left-by .image) i ≡ linkOf (v .image) i) where
       pub same-chunk : Same g (v .image) (left-by .image) i
-      same-chunk = record {
-        link = l;
-        words = λ m j h. keep-word e g (mapWordPlace g (linkOf (v .image) i) j) 0 xs v o (k .range) (k .maps i j b m h);
-      }
+      same-chunk = record { link = l; words = λ m j h. named-word i j b m h }
 
       pub same-holds : holds left-by i ≡ holds v i
       same-holds =

@@ -94,9 +94,9 @@ of-effect : (c b : Bool) → takesEffect (cond c finished (cut b)) ≡ true → 
 of-effect true b h = inr refl
 of-effect false b h = inl h
 
-of-quiet : (c b : Bool) → takesEffect (cond c finished (cut b)) ≡ false → (b ≡ false) × (c ≡ false)
+of-quiet : (c b : Bool) → takesEffect (cond c finished (cut b)) ≡ false → b ≡ false
 of-quiet true b h = contradict refl h
-of-quiet false b h = (h, refl)
+of-quiet false b h = h
 
 -- an event that takes effect was not refused
 pub effect-ahead : (o : Outcome) → takesEffect o ≡ true → o ≢ refused
@@ -125,7 +125,7 @@ module _ {A : Type 0} (v : Volume A) (e : Event A) where
 
   -- an accepted plan with n all its steps is finished
   module _ (a : checked (v .image) (e .request) (e .plan) ≡ Accepted) (c : complete e ≡ true) where
-    pub whole-ahead : goesAhead (v .image) e ≡ true
+    whole-ahead : goesAhead (v .image) e ≡ true
     unfolding goesAhead
     whole-ahead =
         let n = eqb-true (e .count) (wholeSteps (e .plan)) c in
@@ -202,7 +202,7 @@ module _ {A : Type 0} (g : Shape) (v : Volume A) (e : Event A) (d : Intact g (v 
 
         go : (eqb i (chunkOf (e .request)) ≡ true) ⊎ (eqb i (chunkOf (e .request)) ≡ false) → unitsOf (t .image) i ≡ unitsOf s i
         go (inl q) =
-            let z = of-quiet (complete e) (linkLands e 0 xs) (n (sym (eqb-true i (chunkOf (e .request)) q))) in settled .still (z .0) (z .1) i k
+            settled .still (of-quiet (complete e) (linkLands e 0 xs) (n (sym (eqb-true i (chunkOf (e .request)) q)))) i k .1
         go (inr q) = settled .others i k (eqb-false i (chunkOf (e .request)) q) .2
 
     ahead-holds : (i : ℕ) → i < g .c → holds t i ≡ entered (holds v) (entry e (ended v e)) i
@@ -218,7 +218,7 @@ module _ {A : Type 0} (g : Shape) (v : Volume A) (e : Event A) (d : Intact g (v 
             → holds t i ≡ entered (holds v) (entry e (ended v e)) i
         go (inl q) l = settled .new (inr q) i k ∙ by (cond-true (complete e) finished (cut (linkLands e 0 xs)) q)
         go (inr q) (inl l) = settled .new (inl l) i k ∙ by (cond-false (complete e) finished (cut (linkLands e 0 xs)) q ∙ ap cut l)
-        go (inr q) (inr l) = settled .old l q i k ∙ by (cond-false (complete e) finished (cut (linkLands e 0 xs)) q ∙ ap cut l)
+        go (inr q) (inr l) = settled .old l i k ∙ by (cond-false (complete e) finished (cut (linkLands e 0 xs)) q ∙ ap cut l)
 
   -- ---- any plan
 

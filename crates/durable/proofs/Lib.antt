@@ -8,6 +8,6 @@ pub mod Jobs
 pub mod Requests
 pub mod Effect
 pub mod Carrying
-pub mod Back
+pub mod Partly
 pub mod History
 pub mod Theorems

@@ -10,7 +10,7 @@ use lib.Dec.{eqb}
 use borrow.Author.Tests.{eqb-true, eqb-false, ltb-true}
 use Rattle.layout.specs.declared.Shape.{Shape}
 use Rattle.search.specs.Search.{from, below}
-use Rattle.layout.specs.Layout.{X, mapWords, shapeOf, linkOf, unitsFor}
+use Rattle.layout.specs.Layout.{X, mapWords, shapeOf, linkOf, wordAt, mapWordPlace, unitsFor}
 use Rattle.image.specs.Soundness.{mapped, unitsOf}
 use Rattle.image.specs.Stored.{storedSize}
 use Rattle.search.proofs.Bools.{contradict, either, cond-true, cond-false}
@@ -32,7 +32,7 @@ use Rattle.durable.specs.LoadsBack.{newLink, newSize}
 use Rattle.durable.proofs.Settle.{Solid, settle-nil, set-content, keep-content}
 use Rattle.durable.proofs.Linking.{linkLandsOn, lands-own, lands-other, set-link}
 use Rattle.durable.proofs.Fences.{solid, complete-link, all-landed}
-use Rattle.durable.proofs.Careful.{Careful, careful-write, careful-discard, holds-is}
+use Rattle.durable.proofs.Careful.{Careful, careful-write, careful-discard, holds-is, named-word}
 use Rattle.durable.proofs.Core.{still, still-units, still-size, still-holds}
 use Rattle.durable.proofs.Jobs.{Job, puts, clears, given, dealt, kept, job-units, job-size, job-holds, jobs-orderly}
 use Rattle.layout.proofs.Limits.{fitting-limits, map-words}
@@ -57,7 +57,7 @@ module _ {A : Type 0} (v : Volume A) (e : Event A) (d : Orderly (shapeOf (v .ima
   -- what the steps of an accepted request leave
   pub record Settled (r : Request) : Type 0 where
     pub orderly : Orderly (shapeOf (v .image)) (settle e 0 (stepsOf (e .plan)) v .image)
-    pub old : linkLands e 0 (stepsOf (e .plan)) ≡ false → complete e ≡ false → (i : ℕ) → i < shapeOf (v .image) .c → holds (settle e 0 (stepsOf (e .plan)) v) i ≡ holds v i
+    pub old : linkLands e 0 (stepsOf (e .plan)) ≡ false → (i : ℕ) → i < shapeOf (v .image) .c → holds (settle e 0 (stepsOf (e .plan)) v) i ≡ holds v i
     pub new : (linkLands e 0 (stepsOf (e .plan)) ≡ true) ⊎ (complete e ≡ true) → (i : ℕ) → i < shapeOf (v .image) .c
         → holds (settle e 0 (stepsOf (e .plan)) v) i ≡ cond (eqb i (chunkOf r)) (newPieces r (e .payload)) (holds v i)
     pub whole : complete e ≡ true → (i : ℕ) → i < length (stepsOf (e .plan)) → lands e i ≡ true
@@ -68,12 +68,17 @@ module _ {A : Type 0} (v : Volume A) (e : Event A) (d : Orderly (shapeOf (v .ima
         → (linkOf (settle e 0 (stepsOf (e .plan)) v .image) (chunkOf r) ≡ newLink r (stepsOf (e .plan)))
         × (storedSize (settle e 0 (stepsOf (e .plan)) v .image) (chunkOf r) ≡ newSize (shapeOf (v .image)) r)
         × (unitsOf (settle e 0 (stepsOf (e .plan)) v .image) (chunkOf r) ≡ planUnits r (stepsOf (e .plan)))
-    pub still : linkLands e 0 (stepsOf (e .plan)) ≡ false → complete e ≡ false → (i : ℕ) → i < shapeOf (v .image) .c
-        → unitsOf (settle e 0 (stepsOf (e .plan)) v .image) i ≡ unitsOf (v .image) i
+    pub still : linkLands e 0 (stepsOf (e .plan)) ≡ false → (i : ℕ) → i < shapeOf (v .image) .c
+        → (linkOf (settle e 0 (stepsOf (e .plan)) v .image) i ≡ linkOf (v .image) i)
+        × (unitsOf (settle e 0 (stepsOf (e .plan)) v .image) i ≡ unitsOf (v .image) i)
     pub others : (i : ℕ) → i < shapeOf (v .image) .c → i ≢ chunkOf r
         → (linkOf (settle e 0 (stepsOf (e .plan)) v .image) i ≡ linkOf (v .image) i)
         × (storedSize (settle e 0 (stepsOf (e .plan)) v .image) i ≡ storedSize (v .image) i)
         × (unitsOf (settle e 0 (stepsOf (e .plan)) v .image) i ≡ unitsOf (v .image) i)
+    -- the words of every map that was named
+    pub named : (i j : ℕ) → i < shapeOf (v .image) .c → mapped (v .image) i ≡ true → j < mapWords (shapeOf (v .image))
+        → wordAt (settle e 0 (stepsOf (e .plan)) v .image) (mapWordPlace (shapeOf (v .image)) (linkOf (v .image) i) j)
+        ≡ wordAt (v .image) (mapWordPlace (shapeOf (v .image)) (linkOf (v .image) i) j)
 
   -- ---- a careful plan with LINKs, all of chunk c
 
@@ -126,7 +131,7 @@ module _ {A : Type 0} (v : Volume A) (e : Event A) (d : Orderly (shapeOf (v .ima
     settled : Settled r
     settled = record {
       orderly = jobs-orderly v e d k jobs (λ i j z p q. absurd (z (only i p ∙ sym (only j q))));
-      old = λ p z i q. still-holds v e d k i q (still-quiet i p (either (eqb i c)));
+      old = λ p i q. still-holds v e d k i q (still-quiet i p (either (eqb i c)));
       new = λ p i q. moved (some p) i q (either (eqb i c));
       whole = all;
       reserved = λ u q. keep-content e u 0 xs v (k .reserved u q);
@@ -135,12 +140,13 @@ module _ {A : Type 0} (v : Volume A) (e : Event A) (d : Orderly (shapeOf (v .ima
         job-size v e d k c b (lands-here ∙ q) (job q) ∙ right q .1,
         job-units v e d k c b (lands-here ∙ q) (job q) ∙ right q .2,
       );
-      still = λ p z i q. still-units v e d k i q (still-quiet i p (either (eqb i c)));
+      still = λ p i q. let l = still-quiet i p (either (eqb i c)) in (still v e d k i q l, still-units v e d k i q l);
       others = λ i q n. (
         still v e d k i q (lands-elsewhere i n),
         still-size v e d k i q (lands-elsewhere i n),
         still-units v e d k i q (lands-elsewhere i n),
       );
+      named = named-word v e g xs (d .on) k;
     }
 
   -- ---- the three requests
@@ -163,7 +169,7 @@ module _ {A : Type 0} (v : Volume A) (e : Event A) (d : Orderly (shapeOf (v .ima
   unfolding from
   settled-nothing c m n = record {
     orderly = subst (λ (w : Volume A). Orderly g (w .image)) (sym same) d;
-    old = λ p q i b. ap (λ (w : Volume A). holds w i) same;
+    old = λ p i b. ap (λ (w : Volume A). holds w i) same;
     new = λ p i b. ap (λ (w : Volume A). holds w i) same ∙ go i (either (eqb i c));
     whole = λ q i b. absurd (let z = ap length n in omega arith);
     reserved = λ u b. ap (λ (w : Volume A). w .content u) same;
@@ -172,12 +178,13 @@ module _ {A : Type 0} (v : Volume A) (e : Event A) (d : Orderly (shapeOf (v .ima
       ap (λ (w : Volume A). storedSize (w .image) c) same ∙ stored-unmapped s c m ∙ sym (kept-none g),
       ap (λ (w : Volume A). unitsOf (w .image) c) same ∙ units-unmapped s c m,
     );
-    still = λ p q i b. ap (λ (w : Volume A). unitsOf (w .image) i) same;
+    still = λ p i b. (ap (λ (w : Volume A). linkOf (w .image) i) same, ap (λ (w : Volume A). unitsOf (w .image) i) same);
     others = λ i b q. (
       ap (λ (w : Volume A). linkOf (w .image) i) same,
       ap (λ (w : Volume A). storedSize (w .image) i) same,
       ap (λ (w : Volume A). unitsOf (w .image) i) same,
     );
+    named = λ i j b p q. ap (λ (w : Volume A). wordAt (w .image) (mapWordPlace g (linkOf s i) j)) same;
   }
     where
       same : t ≡ v

@@ -5,6 +5,7 @@ use borrow.Author.Tests.{eq-eqb}
 use Prim.Native.Nat.{ℕ, _≤_}
 use lib.ListN.{length}
 use native.Mathlib.Omega.{arith}
+use mathlib.Core.Logic.{inr}
 use mathlib.Core.List.{List, [], map}
 use Rattle.search.specs.Search.{from, firstOr}
 use Rattle.image.specs.Soundness.{unitsOf, Sound}
@@ -28,6 +29,7 @@ use Rattle.rules.specs.Rules.{knownOf, checked, planMap}
 use Rattle.rules.specs.Reading.{GoodRequest}
 use Rattle.rules.proofs.Good.{chunk-tested, size-tested}
 use Rattle.carry.specs.Carry.{carryImage}
+use Rattle.carry.proofs.AnswerLaws.{accepted-answer}
 use Rattle.planner.specs.Planner.{planOf}
 use Rattle.planner.proofs.Accepted.{planned-accepted, plan-map, plan-read}
 use Rattle.planner.proofs.Theorems.{answered, written-is-plan}
@@ -37,7 +39,7 @@ use Rattle.durable.specs.Own.{ownEvent, OwnDelivers}
 use Rattle.durable.specs.LoadsBack.{LoadsBack, newSize, newUnits, PlansLoadBack, StandsOnLowest, ownLink, OwnLoadsBack, WrittenLoadsBack}
 use Rattle.durable.proofs.Careful.{holds-is}
 use Rattle.durable.proofs.Effect.{sound-intact, whole-finished, finished-ahead}
-use Rattle.durable.proofs.Back.{loads-back}
+use Rattle.durable.proofs.Partly.{carried-back}
 use Rattle.durable.proofs.History.{kept-from-sound, own-holds, entered-own, units-stay}
 
 -- Demand 3: the instance of `kept-from-sound` on a fresh volume, whose chunks hold nothing.
@@ -83,7 +85,8 @@ own-delivers A g v r payload z k h =
 -- An accepted plan from any hand, carried out whole, leaves its chunk on the plan's map and the lowest free units, every other as it was, and the chunk's
 -- old units and map free.
 pub plans-load-back : PlansLoadBack
-plans-load-back = loads-back
+plans-load-back g s r plan z a =
+    let n = wholeSteps plan in carried-back g s r plan n z (accepted-answer s r plan n a (omega arith)) (inr refl)
 
 -- The units, over every list of events, cuts among them.
 pub stands-on-lowest : StandsOnLowest
@@ -101,9 +104,9 @@ own-loads-back g s (Write i size) z k h =
     let plan = encodeAll (planOf (knownOf s r) r) in
     let left = carryImage s r plan (wholeSteps plan) in
     subst (λ (l : ℕ). LoadsBack g s i l (newSize g r) (newUnits s r) left) (ap planMap (plan-read s i size t gc gs h) ∙ plan-map s i size t gc gs h)
-    (loads-back g s r plan z (own-accepted g s r z k h))
+    (plans-load-back g s r plan z (own-accepted g s r z k h))
 own-loads-back g s (Discard i) z k h =
-    let r = Discard i in loads-back g s r (encodeAll (planOf (knownOf s r) r)) z (own-accepted g s r z k h)
+    let r = Discard i in plans-load-back g s r (encodeAll (planOf (knownOf s r) r)) z (own-accepted g s r z k h)
 
 -- And by the calls: the planner's answer, what it wrote, and what carrying it out leaves.
 pub written-loads-back : WrittenLoadsBack
