@@ -1,0 +1,4 @@
+pub mod Admitting
+pub mod Opening
+pub mod Calls
+pub mod Promises
