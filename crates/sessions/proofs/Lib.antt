@@ -1,0 +1,4 @@
+pub mod Next
+pub mod Calling
+pub mod Running
+pub mod Theorems

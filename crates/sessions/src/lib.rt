@@ -1,0 +1,1 @@
+// Request 7 over whole lists of calls and events: definitions and proofs, no code.
