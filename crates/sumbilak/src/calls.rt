@@ -1,9 +1,9 @@
 // The exported functions: each hands its arguments on and its answer back as numbers.
-use crate::Answer;
-use crate::ReportAnswer;
-use crate::ShapeAnswer;
-use crate::answers;
-use crate::loading;
+use answers::Answer;
+use answers::ReportAnswer;
+use answers::ShapeAnswer;
+use answers::loading;
+use answers::numbers;
 use report::Level;
 use steps::Request;
 ghost use mathlib.Core.Path.{_≡_};
@@ -21,8 +21,8 @@ ghost use Rattle.convert.specs.Convert.{convertAnswer, convertOut};
 ghost use Rattle.planner.specs.Planner.{planAnswer, planOut};
 ghost use Rattle.rules.specs.Rules.{checked};
 ghost use Rattle.carry.specs.Carry.{carryAnswer, carryImage};
-ghost use Rattle.sumbilak.specs.Loading.{loadAnswer, loadOut};
-ghost use Rattle.sumbilak.specs.Answers.{formattedAnswer, shapeAnswer, splitAnswers, accessAnswers, heldAnswer, storedAnswer, plannedAnswer, repairedAnswer, convertedAnswer, checkedAnswer, reportedAnswer, alarmAnswers};
+ghost use Rattle.answers.specs.Loading.{loadAnswer, loadOut};
+ghost use Rattle.answers.specs.Numbers.{formattedAnswer, shapeAnswer, splitAnswers, accessAnswers, heldAnswer, storedAnswer, plannedAnswer, repairedAnswer, convertedAnswer, checkedAnswer, reportedAnswer, alarmAnswers};
 
 #[no_mangle]
 pub extern "C" fn sumbilak_format(image: &mut [u8], p: u64, c: u64, m: u64, n: u64) -> Answer
@@ -30,7 +30,7 @@ pub extern "C" fn sumbilak_format(image: &mut [u8], p: u64, c: u64, m: u64, n: u
     ensures { λ r. ⌜ now (image .exit) ≡ formatImage (edition1 p c m n) (now (image .entry)) ⌝ }
 {
     let x = layout::format::format(image, p, c, m, n);
-    answers::formatted(x)
+    numbers::formatted(x)
 }
 
 #[no_mangle]
@@ -46,7 +46,7 @@ pub extern "C" fn sumbilak_format2(
     ensures { λ x. ⌜ now (image .exit) ≡ formatImage (edition2 p c m n r) (now (image .entry)) ⌝ }
 {
     let x = layout::format::format2(image, p, c, m, n, r);
-    answers::formatted(x)
+    numbers::formatted(x)
 }
 
 #[no_mangle]
@@ -54,7 +54,7 @@ pub extern "C" fn sumbilak_shape(image: &[u8]) -> ShapeAnswer
     ensures { λ r. ⌜ r ≡ shapeAnswer (loaded (now (image .entry))) ⌝ }
 {
     let x = loader::load::check_image(image);
-    answers::shape(x)
+    numbers::shape(x)
 }
 
 #[no_mangle]
@@ -71,7 +71,7 @@ pub extern "C" fn sumbilak_split(image: &[u8], offset: u64, span: u64, out: &mut
     ensures { λ r. ⌜ now (out .exit) ≡ splitOut (now (image .entry)) offset span (now (out .entry)) ⌝ }
 {
     let x = access::ranges::split(image, offset, span, out);
-    answers::split(x)
+    numbers::split(x)
 }
 
 #[no_mangle]
@@ -79,7 +79,7 @@ pub extern "C" fn sumbilak_access(image: &[u8], write: bool, offset: u64, span: 
     ensures { λ r. ⌜ r ≡ accessAnswers (accessAnswer (now (image .entry)) write offset span) ⌝ }
 {
     let x = access::ranges::access(image, write, offset, span);
-    answers::access(x)
+    numbers::access(x)
 }
 
 #[no_mangle]
@@ -87,7 +87,7 @@ pub extern "C" fn sumbilak_held(image: &[u8], chunk: u64) -> Answer
     ensures { λ r. ⌜ r ≡ heldAnswer (heldOf (now (image .entry)) chunk) ⌝ }
 {
     let x = access::parts::find_held(image, chunk);
-    answers::held(x)
+    numbers::held(x)
 }
 
 #[no_mangle]
@@ -95,7 +95,7 @@ pub extern "C" fn sumbilak_stored_size(image: &[u8], chunk: u64) -> Answer
     ensures { λ r. ⌜ r ≡ storedAnswer (sizeAnswer (now (image .entry)) chunk) ⌝ }
 {
     let x = access::sizes::stored_size(image, chunk);
-    answers::stored(x)
+    numbers::stored(x)
 }
 
 #[no_mangle]
@@ -104,7 +104,7 @@ pub extern "C" fn sumbilak_plan_write(image: &[u8], chunk: u64, size: u64, out: 
     ensures { λ r. ⌜ now (out .exit) ≡ planOut (now (image .entry)) (Request.Write chunk size) (now (out .entry)) ⌝ }
 {
     let x = planner::plan::plan_write(image, chunk, size, out);
-    answers::planned(x)
+    numbers::planned(x)
 }
 
 #[no_mangle]
@@ -113,7 +113,7 @@ pub extern "C" fn sumbilak_plan_discard(image: &[u8], chunk: u64, out: &mut [u8]
     ensures { λ r. ⌜ now (out .exit) ≡ planOut (now (image .entry)) (Request.Discard chunk) (now (out .entry)) ⌝ }
 {
     let x = planner::plan::plan_discard(image, chunk, out);
-    answers::planned(x)
+    numbers::planned(x)
 }
 
 #[no_mangle]
@@ -121,7 +121,7 @@ pub extern "C" fn sumbilak_check_write(image: &[u8], chunk: u64, size: u64, plan
     ensures { λ r. ⌜ r ≡ checkedAnswer (checked (now (image .entry)) (Request.Write chunk size) (now (plan .entry))) ⌝ }
 {
     let x = checker::check::check(image, Request::Write { chunk, size }, plan);
-    answers::checked(x)
+    numbers::checked(x)
 }
 
 #[no_mangle]
@@ -129,7 +129,7 @@ pub extern "C" fn sumbilak_check_discard(image: &[u8], chunk: u64, plan: &[u8]) 
     ensures { λ r. ⌜ r ≡ checkedAnswer (checked (now (image .entry)) (Request.Discard chunk) (now (plan .entry))) ⌝ }
 {
     let x = checker::check::check(image, Request::Discard { chunk }, plan);
-    answers::checked(x)
+    numbers::checked(x)
 }
 
 #[no_mangle]
@@ -144,7 +144,7 @@ pub extern "C" fn sumbilak_carry_write(
     ensures { λ r. ⌜ now (image .exit) ≡ carryImage (now (image .entry)) (Request.Write chunk size) (now (plan .entry)) n ⌝ }
 {
     let x = carry::carry(image, Request::Write { chunk, size }, plan, n);
-    answers::checked(x)
+    numbers::checked(x)
 }
 
 #[no_mangle]
@@ -158,7 +158,7 @@ pub extern "C" fn sumbilak_carry_discard(
     ensures { λ r. ⌜ now (image .exit) ≡ carryImage (now (image .entry)) (Request.Discard chunk) (now (plan .entry)) n ⌝ }
 {
     let x = carry::carry(image, Request::Discard { chunk }, plan, n);
-    answers::checked(x)
+    numbers::checked(x)
 }
 
 #[no_mangle]
@@ -166,7 +166,7 @@ pub extern "C" fn sumbilak_report(image: &[u8]) -> ReportAnswer
     ensures { λ r. ⌜ r ≡ reportedAnswer (reportAnswer (now (image .entry))) ⌝ }
 {
     let x = report::reports::report(image);
-    answers::reported(x)
+    numbers::reported(x)
 }
 
 #[no_mangle]
@@ -174,7 +174,7 @@ pub extern "C" fn sumbilak_alarm_count(image: &[u8], units: u64) -> Answer
     ensures { λ r. ⌜ r ≡ alarmAnswers (alarmAnswer (now (image .entry)) (Level.Count units)) ⌝ }
 {
     let x = report::alarms::alarm(image, Level::Count(units));
-    answers::alarm(x)
+    numbers::alarm(x)
 }
 
 #[no_mangle]
@@ -182,7 +182,7 @@ pub extern "C" fn sumbilak_alarm_fraction(image: &[u8], fraction: f64) -> Answer
     ensures { λ r. ⌜ r ≡ alarmAnswers (alarmAnswer (now (image .entry)) (Level.Fraction fraction)) ⌝ }
 {
     let x = report::alarms::alarm(image, Level::Fraction(fraction));
-    answers::alarm(x)
+    numbers::alarm(x)
 }
 
 #[no_mangle]
@@ -192,7 +192,7 @@ pub extern "C" fn sumbilak_repair(image: &mut [u8], out: &mut [u8]) -> Answer
     ensures { λ r. ⌜ now (out .exit) ≡ repairList (now (image .entry)) (now (out .entry)) ⌝ }
 {
     let x = repair::mend::repair(image, out);
-    answers::repaired(x)
+    numbers::repaired(x)
 }
 
 #[no_mangle]
@@ -201,5 +201,5 @@ pub extern "C" fn sumbilak_convert(image: &[u8], out: &mut [u8]) -> Answer
     ensures { λ r. ⌜ now (out .exit) ≡ convertOut (now (image .entry)) (now (out .entry)) ⌝ }
 {
     let x = convert::upgrade::convert(image, out);
-    answers::converted(x)
+    numbers::converted(x)
 }

@@ -1,7 +1,7 @@
 -- `sumbilak::calls::sumbilak_access` meets its contract: the answer of `access::ranges::access` as numbers.
 use mathlib.Core.Path.{ap, _∙_}
 use borrow.Author.Needs.{needs}
-use Rattle.sumbilak.specs.Answers.{accessAnswers}
+use Rattle.answers.specs.Numbers.{accessAnswers}
 use Rattle.sumbilak.proofs.calls.sumbilak_access.Statement.{statement}
 use Rattle.sumbilak.proofs.calls.sumbilak_access.Tie as tie
 

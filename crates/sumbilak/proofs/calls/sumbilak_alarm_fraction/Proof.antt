@@ -1,7 +1,7 @@
 -- `sumbilak::calls::sumbilak_alarm_fraction` meets its contract: the answer of `report::alarms::alarm` as numbers.
 use mathlib.Core.Path.{ap, _∙_}
 use borrow.Author.Needs.{needs}
-use Rattle.sumbilak.specs.Answers.{alarmAnswers}
+use Rattle.answers.specs.Numbers.{alarmAnswers}
 use Rattle.sumbilak.proofs.calls.sumbilak_alarm_fraction.Statement.{statement}
 use Rattle.sumbilak.proofs.calls.sumbilak_alarm_fraction.Tie as tie
 

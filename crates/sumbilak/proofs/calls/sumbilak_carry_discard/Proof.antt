@@ -1,6 +1,6 @@
 -- `sumbilak::calls::sumbilak_carry_discard` meets its contract: the answer of `carry::carry` as numbers, and the image that it leaves.
 use mathlib.Core.Path.{ap, _∙_}
-use Rattle.sumbilak.specs.Answers.{checkedAnswer}
+use Rattle.answers.specs.Numbers.{checkedAnswer}
 use borrow.Author.Needs.{needs}
 use Rattle.sumbilak.proofs.calls.sumbilak_carry_discard.Statement.{statement}
 use Rattle.sumbilak.proofs.calls.sumbilak_carry_discard.Tie as tie

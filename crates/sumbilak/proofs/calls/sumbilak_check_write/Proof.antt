@@ -1,7 +1,7 @@
 -- `sumbilak::calls::sumbilak_check_write` meets its contract: the answer of `checker::check::check` as numbers.
 use mathlib.Core.Path.{ap, _∙_}
 use borrow.Author.Needs.{needs}
-use Rattle.sumbilak.specs.Answers.{checkedAnswer}
+use Rattle.answers.specs.Numbers.{checkedAnswer}
 use Rattle.sumbilak.proofs.calls.sumbilak_check_write.Statement.{statement}
 use Rattle.sumbilak.proofs.calls.sumbilak_check_write.Tie as tie
 

@@ -1,5 +1,5 @@
 -- `sumbilak::calls::sumbilak_convert` meets its contract: the answer of `convert::upgrade::convert` as numbers, and the buffer that it leaves.
-use Rattle.sumbilak.specs.Answers.{convertedAnswer}
+use Rattle.answers.specs.Numbers.{convertedAnswer}
 use mathlib.Core.Path.{ap, _∙_}
 use borrow.Author.Needs.{needs}
 use Rattle.sumbilak.proofs.calls.sumbilak_convert.Statement.{statement}

@@ -1,6 +1,6 @@
 -- `sumbilak::calls::sumbilak_format` meets its contract: the answer of `layout::format::format` as numbers, and the image that it leaves.
 use mathlib.Core.Path.{ap, _∙_}
-use Rattle.sumbilak.specs.Answers.{formattedAnswer}
+use Rattle.answers.specs.Numbers.{formattedAnswer}
 use borrow.Author.Needs.{needs}
 use Rattle.sumbilak.proofs.calls.sumbilak_format.Statement.{statement}
 use Rattle.sumbilak.proofs.calls.sumbilak_format.Tie as tie

@@ -1,5 +1,5 @@
 -- `sumbilak::calls::sumbilak_format2` meets its contract: the answer of `layout::format::format2` as numbers, and the image that it leaves.
-use Rattle.sumbilak.specs.Answers.{formattedAnswer}
+use Rattle.answers.specs.Numbers.{formattedAnswer}
 use mathlib.Core.Path.{ap, _∙_}
 use borrow.Author.Needs.{needs}
 use Rattle.sumbilak.proofs.calls.sumbilak_format2.Statement.{statement}

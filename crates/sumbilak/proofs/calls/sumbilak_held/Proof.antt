@@ -1,6 +1,6 @@
 -- `sumbilak::calls::sumbilak_held` meets its contract: the answer of `access::parts::find_held` as numbers.
 use mathlib.Core.Path.{ap, _∙_}
-use Rattle.sumbilak.specs.Answers.{heldAnswer}
+use Rattle.answers.specs.Numbers.{heldAnswer}
 use borrow.Author.Needs.{needs}
 use Rattle.sumbilak.proofs.calls.sumbilak_held.Statement.{statement}
 use Rattle.sumbilak.proofs.calls.sumbilak_held.Tie as tie

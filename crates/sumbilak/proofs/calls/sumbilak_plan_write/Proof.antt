@@ -1,6 +1,6 @@
 -- `sumbilak::calls::sumbilak_plan_write` meets its contract: the answer of `planner::plan::plan_write` as numbers, and the buffer that it leaves.
 use mathlib.Core.Path.{ap, _∙_}
-use Rattle.sumbilak.specs.Answers.{plannedAnswer}
+use Rattle.answers.specs.Numbers.{plannedAnswer}
 use borrow.Author.Needs.{needs}
 use Rattle.sumbilak.proofs.calls.sumbilak_plan_write.Statement.{statement}
 use Rattle.sumbilak.proofs.calls.sumbilak_plan_write.Tie as tie

@@ -1,5 +1,5 @@
 -- `sumbilak::calls::sumbilak_repair` meets its contract: the answer of `repair::mend::repair` as numbers, and the image and the list that it leaves.
-use Rattle.sumbilak.specs.Answers.{repairedAnswer}
+use Rattle.answers.specs.Numbers.{repairedAnswer}
 use mathlib.Core.Path.{ap, _∙_}
 use borrow.Author.Needs.{needs}
 use Rattle.sumbilak.proofs.calls.sumbilak_repair.Statement.{statement}

@@ -1,7 +1,7 @@
 -- `sumbilak::calls::sumbilak_report` meets its contract: the answer of `report::reports::report` as numbers.
 use mathlib.Core.Path.{ap, _∙_}
 use borrow.Author.Needs.{needs}
-use Rattle.sumbilak.specs.Answers.{reportedAnswer}
+use Rattle.answers.specs.Numbers.{reportedAnswer}
 use Rattle.sumbilak.proofs.calls.sumbilak_report.Statement.{statement}
 use Rattle.sumbilak.proofs.calls.sumbilak_report.Tie as tie
 

@@ -1,6 +1,6 @@
 -- `sumbilak::calls::sumbilak_split` meets its contract: the answer of `access::ranges::split` as numbers, and the buffer that it leaves.
 use mathlib.Core.Path.{ap, _∙_}
-use Rattle.sumbilak.specs.Answers.{splitAnswers}
+use Rattle.answers.specs.Numbers.{splitAnswers}
 use borrow.Author.Needs.{needs}
 use Rattle.sumbilak.proofs.calls.sumbilak_split.Statement.{statement}
 use Rattle.sumbilak.proofs.calls.sumbilak_split.Tie as tie

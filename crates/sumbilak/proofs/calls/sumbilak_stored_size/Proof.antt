@@ -1,5 +1,5 @@
 -- `sumbilak::calls::sumbilak_stored_size` meets its contract: the answer of `access::sizes::stored_size` as numbers.
-use Rattle.sumbilak.specs.Answers.{storedAnswer}
+use Rattle.answers.specs.Numbers.{storedAnswer}
 use mathlib.Core.Path.{ap, _∙_}
 use borrow.Author.Needs.{needs}
 use Rattle.sumbilak.proofs.calls.sumbilak_stored_size.Statement.{statement}

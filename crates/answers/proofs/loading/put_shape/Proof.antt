@@ -1,0 +1,51 @@
+-- `answers::loading::put_shape` meets its contract: `sets` of the four numbers computes to the four stores.
+use native.Mathlib.Omega.{arith}
+use lib.ListN.{length-set}
+use borrow.Author.Needs.{needs}
+use Rattle.answers.proofs.loading.put_shape.Statement.{statement}
+use Rattle.answers.proofs.loading.put_shape.Tie as tie
+
+cast-out : tie.Need-cast-out
+cast-out c = search needs
+
+slice-write-out : tie.Need-slice-write-out
+slice-write-out c = search needs
+
+cast-out-2 : tie.Need-cast-out-2
+cast-out-2 c = search needs
+
+slice-write-out-2 : tie.Need-slice-write-out-2
+slice-write-out-2 c = simp length-set (omega arith)
+
+cast-out-3 : tie.Need-cast-out-3
+cast-out-3 c = search needs
+
+slice-write-out-3 : tie.Need-slice-write-out-3
+slice-write-out-3 c = simp length-set (omega arith)
+
+cast-out-4 : tie.Need-cast-out-4
+cast-out-4 c = search needs
+
+slice-write-out-4 : tie.Need-slice-write-out-4
+slice-write-out-4 c = search needs
+
+same-length : tie.Need-same-length
+same-length c = search needs
+
+returns : tie.Need-returns
+returns c = search needs
+
+pub put-shape-spec : {M : Type 1} → statement M
+put-shape-spec =
+    tie.close
+    (tie.spec
+    cast-out
+    slice-write-out
+    cast-out-2
+    slice-write-out-2
+    cast-out-3
+    slice-write-out-3
+    cast-out-4
+    slice-write-out-4
+    same-length
+    returns)
