@@ -7,7 +7,8 @@
  * convert takes either:
  *    edition 1   maps of P words, the units; a 32-byte trailer; at most 38,944 bytes
  *    edition 2   maps of P + 1 words, the compressed size and then the units; a 40-byte trailer; at most 41,256 bytes; the first R of its N backing units
- *                may be reserved, for instance for a boot loader: no call counts one free, gives one to a chunk or accepts a plan that writes to one
+ *                may be reserved, for instance for a boot loader: no call counts one free, gives one to a chunk or accepts a plan that writes to one (with an
+ *                index: one that is current)
  * The last 32 bytes are tried as edition 1's trailer first, then the last 40 as edition 2's.
  *
  * Slices. A slice is a pointer and a number of elements. (NULL, 0) is an empty slice; otherwise the pointer leads to that many elements, aligned to
@@ -34,8 +35,9 @@
  *    11   BAD PLAN    a plan rule broken                                            lowest rule broken, 1 to 5
  *    12   BAD ALARM   fraction not a number, below 0 or above 1                     0
  *
- * Every call but the two formats and repair first applies 1 to 6 to its image; repair applies 1 to 3. The lowest number wins. A refusal leaves every lent byte
- * as it was, and value, extent and all that a report or a shape has are 0. An answer writes what its comment says and no other byte.
+ * Every call but the two formats, repair and those with an index (below) first applies 1 to 6 to its image; repair applies 1 to 3. The lowest number
+ * wins, but for the calls with an index. A refusal leaves every lent byte as it was, and value, extent and all that a report or a shape has are 0. An answer writes
+ * what its comment says and no other byte.
  */
 #ifndef SUMBILAK_H
 #define SUMBILAK_H
@@ -196,6 +198,66 @@ sumbilak_report_answer sumbilak_report(const uint8_t *image, size_t len);
  * to 6, and a fraction with 12. */
 sumbilak_answer sumbilak_alarm_count(const uint8_t *image, size_t len, uint64_t units);
 sumbilak_answer sumbilak_alarm_fraction(const uint8_t *image, size_t len, double fraction);
+
+/* ---- the held index
+ *
+ * Every call above goes over the whole image before it answers. A caller that works on one image for long opens it once, keeps what is free, and hands that to the
+ * calls below: none of them goes over the image again.
+ *
+ * An index is the image's edition and geometry, in this struct, and SUMBILAK_INDEX_WORDS words that the caller lends to each call and keeps in between: which
+ * units and which maps are free. The words are the library's: copy them if you like, but do not go by what they say.
+ *
+ * One opens an image, and from then on only calls of this part store to it, each with the struct and the words as the last one left them. Then every answer and
+ * every byte is that of the call of the same name above, on the image as it is then; none refuses with 1 to 6, and a call depends on no chunk's entry or map but
+ * its own chunk's. Open again after a crash, a format, a repair, a new N, or any other store to the image.
+ *
+ * With a stale or made-up index, or an image altered otherwise, a call still ends inside its slices and a refusal still alters nothing lent. It refuses in this
+ * order:
+ *    1 to 3      as the image's trailer gives them; 3 also where the trailer does not say what the struct says
+ *    4           for a call on a chunk below C whose entry is neither absent nor below M, with that chunk (access, on a range, looks only whether it is absent)
+ *    10          fewer than SUMBILAK_INDEX_WORDS words, with their bytes, 616
+ *    7 to 12     as the call above gives them, by the words that it was lent; 9 with 0 also where these have no free map
+ * and no other promise holds then: it may answer by what is free no longer. The calls above never trust an index.
+ *
+ * The struct never changes. Of the words only the two carries below change any: exactly where they answer and LINK is among the n steps, what the chunk held
+ * becomes free and what it holds now does not. Words past SUMBILAK_INDEX_WORDS are never read or written. */
+enum { SUMBILAK_INDEX_WORDS = 77 };
+
+typedef struct {
+    uint64_t edition, p, c, m, n, r; /* as sumbilak_shape answers them */
+} sumbilak_index;
+
+typedef struct {
+    sumbilak_answer answer;
+    sumbilak_index index; /* all 0 beside a refusal */
+} sumbilak_opened;
+
+/* Judges an image, as sumbilak_load does, and writes SUMBILAK_INDEX_WORDS words. Refuses with 1 to 6, and 10 for fewer words (place 616). */
+sumbilak_opened sumbilak_open(const uint8_t *image, size_t len, uint64_t *sets, size_t sets_len);
+
+/* Each of these answers as the call of the same name above. */
+sumbilak_answer sumbilak_index_plan_write(sumbilak_index index, const uint64_t *sets, size_t sets_len, const uint8_t *image, size_t len, uint64_t chunk,
+                                          uint64_t size, uint8_t *out, size_t out_len);
+sumbilak_answer sumbilak_index_plan_discard(sumbilak_index index, const uint64_t *sets, size_t sets_len, const uint8_t *image, size_t len, uint64_t chunk,
+                                            uint8_t *out, size_t out_len);
+sumbilak_answer sumbilak_index_check_write(sumbilak_index index, const uint64_t *sets, size_t sets_len, const uint8_t *image, size_t len, uint64_t chunk,
+                                           uint64_t size, const uint8_t *plan, size_t plan_len);
+sumbilak_answer sumbilak_index_check_discard(sumbilak_index index, const uint64_t *sets, size_t sets_len, const uint8_t *image, size_t len, uint64_t chunk,
+                                             const uint8_t *plan, size_t plan_len);
+
+/* As above; where LINK is among the n steps, the words say afterwards what is free in the image as it is left. */
+sumbilak_answer sumbilak_index_carry_write(sumbilak_index index, uint64_t *sets, size_t sets_len, uint8_t *image, size_t len, uint64_t chunk, uint64_t size,
+                                           const uint8_t *plan, size_t plan_len, uint64_t n);
+sumbilak_answer sumbilak_index_carry_discard(sumbilak_index index, uint64_t *sets, size_t sets_len, uint8_t *image, size_t len, uint64_t chunk,
+                                             const uint8_t *plan, size_t plan_len, uint64_t n);
+
+sumbilak_answer sumbilak_index_access(sumbilak_index index, const uint64_t *sets, size_t sets_len, const uint8_t *image, size_t len, bool write,
+                                      uint64_t offset, uint64_t length);
+sumbilak_answer sumbilak_index_held(sumbilak_index index, const uint64_t *sets, size_t sets_len, const uint8_t *image, size_t len, uint64_t chunk);
+sumbilak_answer sumbilak_index_stored_size(sumbilak_index index, const uint64_t *sets, size_t sets_len, const uint8_t *image, size_t len, uint64_t chunk);
+sumbilak_report_answer sumbilak_index_report(sumbilak_index index, const uint64_t *sets, size_t sets_len, const uint8_t *image, size_t len);
+sumbilak_answer sumbilak_index_alarm_count(sumbilak_index index, const uint64_t *sets, size_t sets_len, const uint8_t *image, size_t len, uint64_t units);
+sumbilak_answer sumbilak_index_alarm_fraction(sumbilak_index index, const uint64_t *sets, size_t sets_len, const uint8_t *image, size_t len, double fraction);
 
 #ifdef __cplusplus
 }
