@@ -1,5 +1,5 @@
 /* The worked cases of document 01, with document 02's figure of what is saved, through the C interface, and the edges of C: empty slices, struct
- * sizes. Says only what is wrong, and how many are right. */
+ * sizes; and the same volume by a held index. Says only what is wrong, and how many are right. */
 #include <math.h>
 #include <stdio.h>
 #include <stdlib.h>
@@ -10,10 +10,13 @@
 _Static_assert(sizeof(sumbilak_answer) == 40, "five u64");
 _Static_assert(sizeof(sumbilak_report_answer) == 72, "seven u64 and two doubles");
 _Static_assert(sizeof(sumbilak_shape_answer) == 72, "nine u64");
+_Static_assert(sizeof(sumbilak_index) == 48, "six u64");
+_Static_assert(sizeof(sumbilak_opened) == 88, "an answer and an index");
 _Static_assert(SUMBILAK_IMAGE_BYTES(16, 256, 288) == SUMBILAK_MAX_IMAGE_BYTES, "the largest image of edition 1");
 _Static_assert(SUMBILAK_IMAGE2_BYTES(16, 256, 288) == SUMBILAK_MAX_IMAGE2_BYTES, "and of edition 2");
 
 enum { P = 4, C = 4, M = 5, N = 20, IMAGE = SUMBILAK_IMAGE_BYTES(P, C, M), IMAGE2 = SUMBILAK_IMAGE2_BYTES(P, C, M) };
+enum { WORDS = SUMBILAK_INDEX_WORDS, LENT = WORDS + 3, PLAN = SUMBILAK_MAX_WRITE2_STEPS * SUMBILAK_STEP_BYTES };
 
 static int asked, failed;
 
@@ -451,6 +454,491 @@ static void reserved_units(void)
     is("all units free", sumbilak_report(other, IMAGE2).free, N);
 }
 
+/* What a caller keeps of an image that it opened, and three words past those that are the library's. */
+typedef struct {
+    sumbilak_index index;
+    uint64_t sets[LENT];
+} kept;
+
+#define BY(v) (v).index, (v).sets, LENT
+
+static void same(const char *what, sumbilak_answer found, sumbilak_answer wanted)
+{
+    is(what, (uint64_t)memcmp(&found, &wanted, sizeof found), 0);
+}
+
+static void gives(const char *what, sumbilak_answer found, uint64_t number, uint64_t place)
+{
+    same(what, found, (sumbilak_answer){number, place, 0, 0, 0});
+}
+
+static kept open_in(const uint8_t *image, size_t bytes)
+{
+    kept v;
+    memset(&v, 0xA5, sizeof v);
+    sumbilak_opened o = sumbilak_open(image, bytes, v.sets, LENT);
+    gives("opened", o.answer, 0, 0);
+    v.index = o.index;
+    return v;
+}
+
+/* An index says what a new one would, and the words past the library's are as they were. */
+static void newest(const kept *v, const uint8_t *image, size_t bytes)
+{
+    kept again = open_in(image, bytes);
+    is("what a new index says", (uint64_t)memcmp(v, &again, sizeof again), 0);
+}
+
+/* Plans a write by the index and carries all of it but `left` steps out, and does the same by the calls that scan: answers, plan and image are equal. */
+static uint64_t write_by(kept *v, uint8_t *image, size_t bytes, uint64_t chunk, uint64_t size, uint64_t left)
+{
+    static uint8_t scanned[SUMBILAK_MAX_IMAGE2_BYTES];
+    uint8_t plan[PLAN], other[PLAN];
+    memcpy(scanned, image, bytes);
+    memset(plan, 0xA5, PLAN);
+    memset(other, 0xA5, PLAN);
+    sumbilak_answer made = sumbilak_index_plan_write(BY(*v), image, bytes, chunk, size, plan, PLAN);
+    same("planned", made, sumbilak_plan_write(image, bytes, chunk, size, other, PLAN));
+    is("step for step", (uint64_t)memcmp(plan, other, PLAN), 0);
+    gives("own plan passes", sumbilak_index_check_write(BY(*v), image, bytes, chunk, size, plan, made.value * 16), 0, 0);
+    gives("carried", sumbilak_index_carry_write(BY(*v), image, bytes, chunk, size, plan, made.value * 16, made.value - left), 0, 0);
+    sumbilak_carry_write(scanned, bytes, chunk, size, plan, made.value * 16, made.value - left);
+    is("byte for byte", (uint64_t)memcmp(image, scanned, bytes), 0);
+    newest(v, image, bytes);
+    return made.value;
+}
+
+/* Every call that only reads answers by the index as it does by the image alone. */
+static void read_by(const kept *v, const uint8_t *image, size_t bytes)
+{
+    for (uint64_t chunk = 0; chunk <= C; chunk++) {
+        same("held words", sumbilak_index_held(BY(*v), image, bytes, chunk), sumbilak_held(image, bytes, chunk));
+        same("stored size", sumbilak_index_stored_size(BY(*v), image, bytes, chunk), sumbilak_stored_size(image, bytes, chunk));
+    }
+    uint64_t others = 0;
+    for (uint64_t from = 0; from <= C * P * 2; from++) /* in half units: every second one is off the grain */
+        for (uint64_t span = 0; span <= P * 2 + 2; span++)
+            for (int write = 0; write < 2; write++) {
+                sumbilak_answer a = sumbilak_index_access(BY(*v), image, bytes, write, from * 2048, span * 2048);
+                sumbilak_answer b = sumbilak_access(image, bytes, write, from * 2048, span * 2048);
+                others += memcmp(&a, &b, sizeof a) != 0;
+            }
+    is("other answers to access", others, 0);
+    sumbilak_report_answer found = sumbilak_index_report(BY(*v), image, bytes), wanted = sumbilak_report(image, bytes);
+    is("report", (uint64_t)memcmp(&found, &wanted, sizeof found), 0);
+    for (uint64_t level = 0; level <= N + 1; level++)
+        same("alarm at a count", sumbilak_index_alarm_count(BY(*v), image, bytes, level), sumbilak_alarm_count(image, bytes, level));
+    static const double levels[] = {0.0, 0.1, 0.5, 0.75, 0.8, 0.8125, 0.875, 1.0, 1.5, -0.5, NAN};
+    for (size_t i = 0; i < sizeof levels / sizeof levels[0]; i++)
+        same("alarm at a fraction", sumbilak_index_alarm_fraction(BY(*v), image, bytes, levels[i]), sumbilak_alarm_fraction(image, bytes, levels[i]));
+}
+
+/* An image that does not open gives the number and the chunks that sumbilak_shape gives, an index that is all 0, and no word; so it does with words too few. */
+static void does_not_open(const uint8_t *image, size_t bytes, uint64_t number, uint64_t place, uint64_t second)
+{
+    static const sumbilak_index none;
+    kept v, paint;
+    memset(&v, 0xA5, sizeof v);
+    memset(&paint, 0xA5, sizeof paint);
+    for (size_t words = WORDS - 1; words <= LENT; words++) {
+        sumbilak_opened o = sumbilak_open(image, bytes, v.sets, words);
+        same("does not open", o.answer, (sumbilak_answer){number, place, second, 0, 0});
+        is("no index", (uint64_t)memcmp(&o.index, &none, sizeof none), 0);
+    }
+    is("no word", (uint64_t)memcmp(v.sets, paint.sets, sizeof v.sets), 0);
+}
+
+static void opening(void)
+{
+    static const sumbilak_index none;
+    uint8_t image[IMAGE], other[IMAGE];
+    uint64_t loaded[SUMBILAK_LOAD_WORDS], few[WORDS], paint[WORDS], rest = 0;
+    sumbilak_format(image, IMAGE, P, C, M, N);
+    kept v = open_in(image, IMAGE);
+    is("edition 1", v.index.edition, 1);
+    is("P", v.index.p, P);
+    is("C", v.index.c, C);
+    is("M", v.index.m, M);
+    is("N", v.index.n, N);
+    is("R", v.index.r, 0);
+    is("free units 0 to 19", v.sets[0], 0xFFFFF);
+    is("free maps 0 to 4", v.sets[72], 0x1F);
+    for (size_t i = 0; i < WORDS; i++)
+        rest |= i == 0 || i == 72 ? 0 : v.sets[i];
+    is("and no more", rest, 0);
+    for (size_t i = WORDS; i < LENT; i++)
+        is("a word past the 77th", v.sets[i], UINT64_C(0xA5A5A5A5A5A5A5A5));
+    sumbilak_load(image, IMAGE, loaded, SUMBILAK_LOAD_WORDS);
+    is("as load has them", (uint64_t)memcmp(v.sets, loaded + 4, 8 * WORDS), 0);
+
+    memset(few, 0xA5, sizeof few);
+    memset(paint, 0xA5, sizeof paint);
+    sumbilak_opened o = sumbilak_open(image, IMAGE, few, WORDS - 1);
+    gives("76 words", o.answer, 10, 616);
+    is("and no index", (uint64_t)memcmp(&o.index, &none, sizeof none), 0);
+    gives("no word", sumbilak_open(image, IMAGE, NULL, 0).answer, 10, 616);
+    is("nothing is written", (uint64_t)memcmp(few, paint, sizeof few), 0);
+    gives("77 words", sumbilak_open(image, IMAGE, few, WORDS).answer, 0, 0);
+    is("and all of them", (uint64_t)memcmp(few, v.sets, sizeof few), 0);
+
+    write_chunk(image, 2, 6144, 0);
+    does_not_open(image, 31, 1, 0, 0);
+    memcpy(other, image, IMAGE);
+    other[IMAGE - 32] = 0;
+    does_not_open(other, IMAGE, 2, 0, 0);
+    memcpy(other, image, IMAGE);
+    other[IMAGE - 1] = 1;
+    does_not_open(other, IMAGE, 3, 0, 0);
+    memcpy(other, image, IMAGE);
+    memset(other + 8, 0, 8);
+    other[8] = M;
+    does_not_open(other, IMAGE, 4, 1, 0);
+    other[8] = 4; /* map 4 is X throughout */
+    does_not_open(other, IMAGE, 5, 1, 0);
+    memcpy(other, image, IMAGE);
+    memcpy(other + 24, other + 16, 8); /* chunk 3 names chunk 2's map */
+    does_not_open(other, IMAGE, 6, 2, 3);
+}
+
+/* Document 01's three writes by an index, and discards. */
+static void held_index(void)
+{
+    uint8_t image[IMAGE], before[IMAGE], other[IMAGE], plan[PLAN], fence[16] = {4};
+    sumbilak_format(image, IMAGE, P, C, M, N);
+    kept v = open_in(image, IMAGE), w;
+    read_by(&v, image, IMAGE);
+    is("nine steps", write_by(&v, image, IMAGE, 2, 6144, 0), 9);
+    is("free units 2 to 19", v.sets[0], 0xFFFFC);
+    is("free maps 1 to 4", v.sets[72], 0x1E);
+    is("chunk 2 on units 0, 1", units(image, 2), 0x0001);
+    read_by(&v, image, IMAGE);
+    is("eight steps", write_by(&v, image, IMAGE, 0, 3072, 0), 8);
+    is("free units 3 to 19", v.sets[0], 0xFFFF8);
+    is("free maps 2 to 4", v.sets[72], 0x1C);
+
+    /* cut before LINK: the index is the one before, and says what is free in the image found */
+    memcpy(other, image, IMAGE);
+    w = v;
+    write_by(&w, other, IMAGE, 0, 5120, 2);
+    is("cut before LINK, the index stays", (uint64_t)memcmp(&w, &v, sizeof v), 0);
+    sumbilak_answer held = sumbilak_index_held(BY(w), other, IMAGE, 0);
+    is("one unit", held.extent, 8);
+    is("chunk 0 on unit 2", other[held.value], 2);
+    read_by(&w, other, IMAGE);
+
+    /* each count of steps: two DATA, four MAP, FENCE, LINK, FENCE */
+    sumbilak_answer made = sumbilak_index_plan_write(BY(v), image, IMAGE, 0, 5120, plan, PLAN);
+    is("nine steps", made.value, 9);
+    for (uint64_t n = 0; n <= 9; n++) {
+        memcpy(other, image, IMAGE);
+        memcpy(before, image, IMAGE);
+        w = v;
+        gives("n steps", sumbilak_index_carry_write(BY(w), other, IMAGE, 0, 5120, plan, 9 * 16, n), 0, 0);
+        sumbilak_carry_write(before, IMAGE, 0, 5120, plan, 9 * 16, n);
+        is("byte for byte", (uint64_t)memcmp(other, before, IMAGE), 0);
+        is("the index moves with LINK", memcmp(&w, &v, sizeof v) != 0, n >= 8);
+        newest(&w, other, IMAGE);
+    }
+    memcpy(other, image, IMAGE);
+    w = v;
+    for (uint64_t n = 0; n <= 8; n++)
+        gives("step by step", sumbilak_index_carry_write(BY(w), other, IMAGE, 0, 5120, plan, 9 * 16, n), 0, 0);
+    newest(&w, other, IMAGE);
+    gives("and no more after LINK", sumbilak_index_carry_write(BY(w), other, IMAGE, 0, 5120, plan, 9 * 16, 9), 11, 2);
+    newest(&w, other, IMAGE);
+
+    is("nine steps", write_by(&v, image, IMAGE, 0, 5120, 0), 9);
+    is("chunk 0 on units 3, 4", units(image, 0), 0x0304);
+    is("unit 2 is free", v.sets[0], 0xFFFE4);
+    is("map 1 is free", v.sets[72], 0x1A);
+    is("the index is that of the steps", (uint64_t)memcmp(&v, &w, sizeof v), 0);
+    read_by(&v, image, IMAGE);
+
+    /* a discard gives the chunk's units and its map back; one of an unmapped chunk has no LINK */
+    memcpy(before, image, IMAGE);
+    w = v;
+    gives("discard of an unmapped chunk", sumbilak_index_plan_discard(BY(v), image, IMAGE, 1, NULL, 0), 0, 0);
+    gives("no step", sumbilak_index_check_discard(BY(v), image, IMAGE, 1, NULL, 0), 0, 0);
+    gives("carried", sumbilak_index_carry_discard(BY(v), image, IMAGE, 1, NULL, 0, 0), 0, 0);
+    gives("a lone FENCE", sumbilak_index_check_discard(BY(v), image, IMAGE, 1, fence, 16), 11, 5);
+    gives("is not carried out", sumbilak_index_carry_discard(BY(v), image, IMAGE, 1, fence, 16, 1), 11, 5);
+    made = sumbilak_index_plan_discard(BY(v), image, IMAGE, 2, plan, PLAN);
+    is("two steps", made.value, 2);
+    gives("discard", sumbilak_index_check_discard(BY(v), image, IMAGE, 2, plan, 32), 0, 0);
+    gives("of no step", sumbilak_index_carry_discard(BY(v), image, IMAGE, 2, plan, 32, 0), 0, 0);
+    is("the image stays", (uint64_t)memcmp(image, before, IMAGE), 0);
+    is("the index stays", (uint64_t)memcmp(&v, &w, sizeof v), 0);
+    gives("up to LINK", sumbilak_index_carry_discard(BY(v), image, IMAGE, 2, plan, 32, 1), 0, 0);
+    sumbilak_carry_discard(before, IMAGE, 2, plan, 32, 1);
+    is("byte for byte", (uint64_t)memcmp(image, before, IMAGE), 0);
+    is("units 0, 1 are free", v.sets[0], 0xFFFE7);
+    is("map 0 is free", v.sets[72], 0x1B);
+    newest(&v, image, IMAGE);
+    read_by(&v, image, IMAGE);
+    is("units 0, 1 are used again", write_by(&v, image, IMAGE, 3, 16384, 0), 11);
+    is("and 2, 5", units(image, 3), 0x00010205);
+}
+
+/* The same volume in edition 2, with three units reserved, until it is full. */
+static void held_index_2(void)
+{
+    enum { R = 3 };
+    uint8_t image[IMAGE2], before[IMAGE2], plan[PLAN], paint[PLAN];
+    sumbilak_format2(image, IMAGE2, P, C, M, N, R);
+    kept v = open_in(image, IMAGE2), w;
+    is("edition 2", v.index.edition, 2);
+    is("R", v.index.r, R);
+    is("free units 3 to 19", v.sets[0], 0xFFFF8);
+    is("ten steps", write_by(&v, image, IMAGE2, 2, 6144, 0), 10);
+    is("its size", sumbilak_index_stored_size(BY(v), image, IMAGE2, 2).value, 6144);
+    write_by(&v, image, IMAGE2, 0, 3072, 0);
+    write_by(&v, image, IMAGE2, 0, 5120, 2);
+    is("a cut before LINK keeps the size", sumbilak_index_stored_size(BY(v), image, IMAGE2, 0).value, 3072);
+    write_by(&v, image, IMAGE2, 0, 5120, 0);
+    is("chunk 0 on units 6, 7", units_in(image, IMAGE2, 0), 0x0607);
+    is("unit 5 is free", v.sets[0], 0xFFF20);
+    is("map 1 is free", v.sets[72], 0x1A);
+    read_by(&v, image, IMAGE2);
+    write_by(&v, image, IMAGE2, 1, 16384, 0);
+    write_by(&v, image, IMAGE2, 3, 16384, 0);
+    write_by(&v, image, IMAGE2, 0, 16384, 0);
+    is("units 6, 7, 19 are free", v.sets[0], 0x800C0);
+    read_by(&v, image, IMAGE2);
+
+    memcpy(before, image, IMAGE2);
+    w = v;
+    memset(plan, 0xA5, PLAN);
+    memset(paint, 0xA5, PLAN);
+    gives("four units of three", sumbilak_index_plan_write(BY(v), image, IMAGE2, 2, 16384, plan, PLAN), 9, 3);
+    is("no plan", (uint64_t)memcmp(plan, paint, PLAN), 0);
+    is("the image stays", (uint64_t)memcmp(image, before, IMAGE2), 0);
+    is("the index stays", (uint64_t)memcmp(&v, &w, sizeof v), 0);
+    is("three units of three", write_by(&v, image, IMAGE2, 2, 12288, 0), 11);
+    is("units 3, 4 are free", v.sets[0], 0x18);
+    gives("three units of two", sumbilak_index_plan_write(BY(v), image, IMAGE2, 2, 12288, plan, PLAN), 9, 2);
+}
+
+/* What a refused call by an index leaves: the words, the image and the output, byte for byte; and it refuses as the call that scans does. */
+static void refused_calls(void)
+{
+    uint8_t image[IMAGE], left[IMAGE], out[PLAN], paint[PLAN], plan[PLAN], bad[PLAN];
+    sumbilak_format(image, IMAGE, P, C, M, N);
+    kept v = open_in(image, IMAGE), w;
+    write_by(&v, image, IMAGE, 2, 6144, 0);
+    write_by(&v, image, IMAGE, 0, 3072, 0);
+    is("plan", sumbilak_index_plan_write(BY(v), image, IMAGE, 0, 5120, plan, PLAN).value, 9);
+    memcpy(bad, plan, PLAN);
+    bad[16 + 4] = bad[3 * 16 + 12] = 5; /* piece 1 on unit 5, which is free and not the lowest */
+    memset(out, 0xA5, PLAN);
+    memset(paint, 0xA5, PLAN);
+    memcpy(left, image, IMAGE);
+    w = v;
+
+    gives("plan for chunk 4", sumbilak_index_plan_write(BY(w), left, IMAGE, 4, 5120, out, PLAN), 7, 0);
+    gives("plan for chunk 2^64-1", sumbilak_index_plan_write(BY(w), left, IMAGE, UINT64_MAX, 5120, out, PLAN), 7, 0);
+    gives("plan of 0 bytes", sumbilak_index_plan_write(BY(w), left, IMAGE, 0, 0, out, PLAN), 8, 0);
+    gives("plan of 16,385 bytes", sumbilak_index_plan_write(BY(w), left, IMAGE, 0, 16385, out, PLAN), 8, 0);
+    gives("plan in 143 bytes", sumbilak_index_plan_write(BY(w), left, IMAGE, 0, 5120, out, 143), 10, 144);
+    gives("plan in none", sumbilak_index_plan_write(BY(w), left, IMAGE, 0, 5120, NULL, 0), 10, 144);
+    gives("discard of chunk 4", sumbilak_index_plan_discard(BY(w), left, IMAGE, 4, out, PLAN), 7, 0);
+    gives("discard in 31 bytes", sumbilak_index_plan_discard(BY(w), left, IMAGE, 0, out, 31), 10, 32);
+    gives("check for chunk 4", sumbilak_index_check_write(BY(w), left, IMAGE, 4, 5120, plan, 144), 7, 0);
+    gives("check of 0 bytes", sumbilak_index_check_write(BY(w), left, IMAGE, 0, 0, plan, 144), 8, 0);
+    gives("check of a discard of chunk 4", sumbilak_index_check_discard(BY(w), left, IMAGE, 4, plan, 144), 7, 0);
+    gives("rule 1", sumbilak_index_carry_write(BY(w), left, IMAGE, 0, 5120, plan, 143, 8), 11, 1);
+    gives("rule 2", sumbilak_index_carry_write(BY(w), left, IMAGE, 0, 5120, bad, 144, 9), 11, 2);
+    bad[16 + 4] = 4;
+    gives("rule 3", sumbilak_index_carry_write(BY(w), left, IMAGE, 0, 5120, bad, 144, 9), 11, 3);
+    gives("rule 4", sumbilak_index_carry_write(BY(w), left, IMAGE, 1, 5120, plan, 144, 9), 11, 4);
+    gives("rule 5", sumbilak_index_carry_write(BY(w), left, IMAGE, 0, 5120, plan, 128, 8), 11, 5);
+    gives("a discard's rule 2", sumbilak_index_carry_discard(BY(w), left, IMAGE, 0, plan, 144, 9), 11, 2);
+    gives("ten of nine steps", sumbilak_index_carry_write(BY(w), left, IMAGE, 0, 5120, plan, 144, 10), 7, 0);
+    gives("2^64-1 of nine", sumbilak_index_carry_write(BY(w), left, IMAGE, 0, 5120, plan, 144, UINT64_MAX), 7, 0);
+    gives("carry for chunk 4", sumbilak_index_carry_write(BY(w), left, IMAGE, 4, 5120, plan, 144, 9), 7, 0);
+    gives("carry of 16,385 bytes", sumbilak_index_carry_write(BY(w), left, IMAGE, 0, 16385, plan, 144, 9), 8, 0);
+    gives("discard of chunk 4", sumbilak_index_carry_discard(BY(w), left, IMAGE, 4, plan, 144, 9), 7, 0);
+    gives("nothing", sumbilak_index_access(BY(w), left, IMAGE, false, 0, 0), 7, 0);
+    gives("past the end", sumbilak_index_access(BY(w), left, IMAGE, true, 65536, 4096), 7, 0);
+    gives("held by chunk 4", sumbilak_index_held(BY(w), left, IMAGE, 4), 7, 0);
+    gives("size of chunk 4", sumbilak_index_stored_size(BY(w), left, IMAGE, 4), 7, 0);
+    gives("not a number", sumbilak_index_alarm_fraction(BY(w), left, IMAGE, NAN), 12, 0);
+    is("the output stays", (uint64_t)memcmp(out, paint, PLAN), 0);
+    is("the image stays", (uint64_t)memcmp(left, image, IMAGE), 0);
+    is("the index stays", (uint64_t)memcmp(&w, &v, sizeof v), 0);
+    newest(&w, left, IMAGE);
+
+    /* the lowest number wins, as without an index */
+    sumbilak_answer a = sumbilak_carry_write(left, IMAGE, 0, 0, bad, 144, 10);
+    same("7 before 8 and 11", sumbilak_index_carry_write(BY(w), left, IMAGE, 0, 0, bad, 144, 10), a);
+    same("8 before 11", sumbilak_index_check_write(BY(w), left, IMAGE, 0, 0, bad, 144), sumbilak_check_write(left, IMAGE, 0, 0, bad, 144));
+    same("7 before 8 and 10", sumbilak_index_plan_write(BY(w), left, IMAGE, 4, 0, NULL, 0), sumbilak_plan_write(left, IMAGE, 4, 0, NULL, 0));
+
+    /* of all pairs of units and all maps the same pass as without an index */
+    memcpy(bad, plan, PLAN);
+    for (uint8_t first = 0; first < N; first++)
+        for (uint8_t second = 0; second < N; second++) {
+            bad[4] = bad[2 * 16 + 12] = first;
+            bad[16 + 4] = bad[3 * 16 + 12] = second;
+            gives("a pair of units", sumbilak_index_check_write(BY(w), left, IMAGE, 0, 5120, bad, 144), first == 3 && second == 4 ? 0 : 11,
+                    first == 3 && second == 4 ? 0 : 2);
+        }
+    memcpy(bad, plan, PLAN);
+    for (uint8_t m = 0; m < M; m++) {
+        for (size_t i = 0; i < P; i++)
+            bad[(2 + i) * 16 + 4] = m;
+        bad[7 * 16 + 12] = m;
+        gives("a map", sumbilak_index_check_write(BY(w), left, IMAGE, 0, 5120, bad, 144), m < 2 ? 11 : 0, m < 2 ? 3 : 0);
+    }
+    gives("the last map, carried out", sumbilak_index_carry_write(BY(w), left, IMAGE, 0, 5120, bad, 144, 9), 0, 0);
+    is("is not free, and map 1 is", w.sets[72], 0x0E);
+    newest(&w, left, IMAGE);
+}
+
+enum { ON_A_CHUNK = 8, ALL = 12 };
+
+/* The first `calls` of the calls by an index refuse, each with this number and place, and alter nothing; the others do not, unless words are too few. Eight
+ * are on a chunk, with a lone FENCE for a plan, and the last four are not. */
+static void each_refuses(const char *what, const kept *v, size_t words, const uint8_t *image, size_t bytes, uint64_t chunk, size_t calls, uint64_t number,
+                         uint64_t place)
+{
+    kept w = *v;
+    sumbilak_index x = w.index;
+    uint8_t left[IMAGE2], out[PLAN], paint[PLAN], plan[16] = {4};
+    memcpy(left, image, bytes);
+    memset(out, 0xA5, PLAN);
+    memset(paint, 0xA5, PLAN);
+    sumbilak_report_answer r = sumbilak_index_report(x, w.sets, words, left, bytes);
+    sumbilak_answer a[ALL] = {
+        sumbilak_index_plan_write(x, w.sets, words, left, bytes, chunk, 6144, out, PLAN),
+        sumbilak_index_plan_discard(x, w.sets, words, left, bytes, chunk, out, PLAN),
+        sumbilak_index_check_write(x, w.sets, words, left, bytes, chunk, 6144, plan, 16),
+        sumbilak_index_check_discard(x, w.sets, words, left, bytes, chunk, plan, 16),
+        sumbilak_index_carry_write(x, w.sets, words, left, bytes, chunk, 6144, plan, 16, 1),
+        sumbilak_index_carry_discard(x, w.sets, words, left, bytes, chunk, plan, 16, 1),
+        sumbilak_index_held(x, w.sets, words, left, bytes, chunk),
+        sumbilak_index_stored_size(x, w.sets, words, left, bytes, chunk),
+        sumbilak_index_access(x, w.sets, words, left, bytes, false, 0, 4096),
+        {r.number, r.place, r.second, r.mapped + r.held + r.free + r.saved, r.held_ratio != 0.0 || r.saved_ratio != 0.0},
+        sumbilak_index_alarm_count(x, w.sets, words, left, bytes, 1),
+        sumbilak_index_alarm_fraction(x, w.sets, words, left, bytes, 0.5),
+    };
+    for (size_t i = 0; i < calls; i++)
+        gives(what, a[i], number, place);
+    for (size_t i = calls; i < ALL; i++)
+        is("the others", a[i].number, words < WORDS ? 10 : 0);
+    is("no plan", (uint64_t)memcmp(out, paint, PLAN), 0);
+    is("the image stays", (uint64_t)memcmp(left, image, bytes), 0);
+    is("the index stays", (uint64_t)memcmp(&w, v, sizeof w), 0);
+}
+
+/* Indexes that are made up, too short, or of another image, and images that were altered: what is refused, in which order. */
+static void made_up(void)
+{
+    uint8_t image[IMAGE], other[IMAGE2], plan[PLAN], scanned[PLAN];
+    sumbilak_format(image, IMAGE, P, C, M, N);
+    write_chunk(image, 2, 6144, 0);
+    write_chunk(image, 0, 3072, 0);
+    const kept v = open_in(image, IMAGE);
+
+    /* each number of the struct, off by what a narrower number would not show */
+    static const uint64_t off[] = {1, UINT64_MAX, 256, 65536, UINT64_C(1) << 32, UINT64_C(1) << 63};
+    for (size_t i = 0; i < 6; i++)
+        for (size_t j = 0; j < sizeof off / sizeof off[0]; j++) {
+            kept w = v;
+            uint64_t *numbers[] = {&w.index.edition, &w.index.p, &w.index.c, &w.index.m, &w.index.n, &w.index.r};
+            *numbers[i] += off[j];
+            each_refuses("a wrong number", &w, LENT, image, IMAGE, 0, ALL, 3, 0);
+            each_refuses("before few words", &w, 0, image, IMAGE, 0, ALL, 3, 0);
+        }
+    kept none;
+    memset(&none, 0, sizeof none);
+    each_refuses("all 0", &none, LENT, image, IMAGE, 0, ALL, 3, 0);
+
+    /* images that this index does not go with */
+    each_refuses("31 bytes", &v, LENT, image, 31, 0, ALL, 1, 0);
+    each_refuses("the first 223 bytes", &v, LENT, image, IMAGE - 1, 0, ALL, 2, 0);
+    memcpy(other, image, IMAGE);
+    other[IMAGE - 32] = 0;
+    each_refuses("a foreign tag", &v, LENT, other, IMAGE, 0, ALL, 2, 0);
+    memcpy(other, image, IMAGE);
+    other[IMAGE - 1] = 1;
+    each_refuses("a foreign length", &v, LENT, other, IMAGE, 0, ALL, 3, 0);
+    sumbilak_format(other, IMAGE, P, C, M, N - 1);
+    each_refuses("another N", &v, LENT, other, IMAGE, 0, ALL, 3, 0);
+    sumbilak_convert(image, IMAGE, other, IMAGE2);
+    each_refuses("another edition", &v, LENT, other, IMAGE2, 0, ALL, 3, 0);
+    const kept v2 = open_in(other, IMAGE2);
+    sumbilak_format2(other, IMAGE2, P, C, M, N, 1);
+    each_refuses("another R", &v2, LENT, other, IMAGE2, 0, ALL, 3, 0);
+
+    /* an entry that leads outside: M, X as a step writes it, and the last number but X */
+    static const uint64_t entries[] = {M, UINT32_MAX, UINT64_C(1) << 32, UINT64_MAX - 1};
+    for (size_t i = 0; i < sizeof entries / sizeof entries[0]; i++) {
+        memcpy(other, image, IMAGE);
+        for (size_t j = 0; j < 8; j++)
+            other[24 + j] = (uint8_t)(entries[i] >> 8 * j);
+        each_refuses("an entry that leads outside", &v, LENT, other, IMAGE, 3, ON_A_CHUNK, 4, 3);
+        each_refuses("before few words", &v, 0, other, IMAGE, 3, ON_A_CHUNK, 4, 3);
+        is("access reads the chunk", sumbilak_index_access(BY(v), other, IMAGE, false, 49152, 4096).value, SUMBILAK_READS_CHUNK);
+        each_refuses("chunk 4 has no entry", &v, LENT, other, IMAGE, 4, ON_A_CHUNK, 7, 0);
+    }
+
+    /* words too few come before 7 to 12 */
+    for (size_t words = 0; words < WORDS; words++)
+        each_refuses("too few words", &v, words, image, IMAGE, 0, ALL, 10, 616);
+    each_refuses("before 7", &v, WORDS - 1, image, IMAGE, 4, ALL, 10, 616);
+    gives("before 8", sumbilak_index_plan_write(v.index, v.sets, 76, image, IMAGE, 0, 0, plan, PLAN), 10, 616);
+    gives("before a plan's 10", sumbilak_index_plan_write(v.index, v.sets, 76, image, IMAGE, 0, 5120, NULL, 0), 10, 616);
+    gives("before a range's 7", sumbilak_index_access(v.index, v.sets, 76, image, IMAGE, true, 1, 0), 10, 616);
+    gives("before 12", sumbilak_index_alarm_fraction(v.index, v.sets, 76, image, IMAGE, NAN), 10, 616);
+    gives("no words at all", sumbilak_index_held(v.index, NULL, 0, image, IMAGE, 0), 10, 616);
+    gives("77 words", sumbilak_index_alarm_count(v.index, v.sets, WORDS, image, IMAGE, 17), 0, 0);
+
+    /* no other chunk's entry or map is looked at: chunk 3's leads outside, and chunk 2's map has a unit past the last */
+    memcpy(other, image, IMAGE);
+    memset(other + 24, 0x77, 8);
+    other[32] = 0x77;
+    gives("the scanning call", sumbilak_plan_write(other, IMAGE, 0, 5120, plan, PLAN), 4, 3);
+    memset(plan, 0xA5, PLAN);
+    memset(scanned, 0xA5, PLAN);
+    same("plan", sumbilak_index_plan_write(BY(v), other, IMAGE, 0, 5120, plan, PLAN), sumbilak_plan_write(image, IMAGE, 0, 5120, scanned, PLAN));
+    is("step for step", (uint64_t)memcmp(plan, scanned, PLAN), 0);
+    kept w = v, whole = v;
+    uint8_t left[IMAGE];
+    memcpy(left, image, IMAGE);
+    gives("check", sumbilak_index_check_write(BY(v), other, IMAGE, 0, 5120, plan, 144), 0, 0);
+    gives("carried", sumbilak_index_carry_write(BY(w), other, IMAGE, 0, 5120, plan, 144, 9), 0, 0);
+    gives("carried on the whole image", sumbilak_index_carry_write(BY(whole), left, IMAGE, 0, 5120, plan, 144, 9), 0, 0);
+    is("the next index is the same", (uint64_t)memcmp(&w, &whole, sizeof w), 0);
+    memset(left + 24, 0x77, 8);
+    left[32] = 0x77;
+    is("and so is what was stored", (uint64_t)memcmp(other, left, IMAGE), 0);
+
+    /* a stale index takes its own plan on a unit that is held since; no call that scans does */
+    memcpy(other, image, IMAGE);
+    write_chunk(other, 1, 4096, 0);
+    is("plan", sumbilak_index_plan_write(BY(v), other, IMAGE, 3, 4096, plan, PLAN).value, 8);
+    is("on unit 3", plan[4], 3);
+    is("which chunk 1 holds", units(other, 1), 3);
+    gives("the stale index takes it", sumbilak_index_check_write(BY(v), other, IMAGE, 3, 4096, plan, 128), 0, 0);
+    gives("the check that scans does not", sumbilak_check_write(other, IMAGE, 3, 4096, plan, 128), 11, 2);
+    w = open_in(other, IMAGE);
+    gives("nor does a new index", sumbilak_index_check_write(BY(w), other, IMAGE, 3, 4096, plan, 128), 11, 2);
+
+    /* words that were made up: the units below N and the maps below M count */
+    w = v;
+    memset(w.sets, 0, sizeof w.sets);
+    gives("nothing free", sumbilak_index_plan_write(BY(w), image, IMAGE, 0, 4096, plan, PLAN), 9, 0);
+    w.sets[0] = 2;
+    gives("a unit and no map", sumbilak_index_plan_write(BY(w), image, IMAGE, 0, 4096, plan, PLAN), 9, 0);
+    gives("two units of one", sumbilak_index_plan_write(BY(w), image, IMAGE, 0, 4097, plan, PLAN), 9, 1);
+    memset(w.sets, 0xFF, sizeof w.sets);
+    sumbilak_report_answer r = sumbilak_index_report(BY(w), image, IMAGE);
+    is("everything is free", r.number == 0 && r.mapped == 0 && r.held == 0 && r.free == N && r.saved == 0, 1);
+    is("20 units are silent", sumbilak_index_alarm_count(BY(w), image, IMAGE, 20).value, 0);
+    is("21 units sound", sumbilak_index_alarm_count(BY(w), image, IMAGE, 21).value, 1);
+}
+
 static void limits(void)
 {
     uint8_t *image = malloc(SUMBILAK_MAX_IMAGE2_BYTES + 8);
@@ -480,6 +968,25 @@ static void limits(void)
         is("16 are held", sumbilak_report(image, SUMBILAK_MAX_IMAGE2_BYTES).free, 4592 - r);
     }
     is("4,593 reserved", sumbilak_format2(image, SUMBILAK_MAX_IMAGE2_BYTES, 16, 256, 288, 4608, 4593).number, 3);
+
+    /* the largest volumes by an index, every chunk written raw, and the last again; 15 units are reserved in edition 2 */
+    for (uint64_t edition = 1; edition <= 2; edition++) {
+        size_t bytes = edition == 1 ? SUMBILAK_MAX_IMAGE_BYTES : SUMBILAK_MAX_IMAGE2_BYTES;
+        if (edition == 1)
+            sumbilak_format(image, bytes, 16, 256, 288, 4608);
+        else
+            sumbilak_format2(image, bytes, 16, 256, 288, 4608, 15);
+        kept v = open_in(image, bytes);
+        for (uint64_t chunk = 0; chunk < 256; chunk++)
+            write_by(&v, image, bytes, chunk, 65536, 0);
+        is("as many steps as there are", write_by(&v, image, bytes, 255, 65536, 0), edition == 1 ? SUMBILAK_MAX_WRITE_STEPS : SUMBILAK_MAX_WRITE2_STEPS);
+        sumbilak_report_answer r = sumbilak_index_report(BY(v), image, bytes);
+        is("all chunks", r.mapped, 256);
+        is("all their units", r.held, 4096);
+        is("the others", r.free, edition == 1 ? 512 : 497);
+        is("map 255 is free", v.sets[72 + 3], UINT64_C(1) << 63);
+        is("map 256 is not", v.sets[72 + 4], 0xFFFFFFFE);
+    }
     free(image);
 }
 
@@ -504,6 +1011,20 @@ static void empty_slices(void)
     is("report", sumbilak_report(NULL, 0).number, 1);
     is("alarm_count", sumbilak_alarm_count(NULL, 0, 0).number, 1);
     is("alarm_fraction", sumbilak_alarm_fraction(NULL, 0, 0.5).number, 1);
+    sumbilak_index x = {1, P, C, M, N, 0};
+    is("open", sumbilak_open(NULL, 0, NULL, 0).answer.number, 1);
+    is("index_plan_write", sumbilak_index_plan_write(x, NULL, 0, NULL, 0, 0, 1, NULL, 0).number, 1);
+    is("index_plan_discard", sumbilak_index_plan_discard(x, NULL, 0, NULL, 0, 0, NULL, 0).number, 1);
+    is("index_check_write", sumbilak_index_check_write(x, NULL, 0, NULL, 0, 0, 1, NULL, 0).number, 1);
+    is("index_check_discard", sumbilak_index_check_discard(x, NULL, 0, NULL, 0, 0, NULL, 0).number, 1);
+    is("index_carry_write", sumbilak_index_carry_write(x, NULL, 0, NULL, 0, 0, 1, NULL, 0, 0).number, 1);
+    is("index_carry_discard", sumbilak_index_carry_discard(x, NULL, 0, NULL, 0, 0, NULL, 0, 0).number, 1);
+    is("index_access", sumbilak_index_access(x, NULL, 0, NULL, 0, false, 0, 4096).number, 1);
+    is("index_held", sumbilak_index_held(x, NULL, 0, NULL, 0, 0).number, 1);
+    is("index_stored_size", sumbilak_index_stored_size(x, NULL, 0, NULL, 0, 0).number, 1);
+    is("index_report", sumbilak_index_report(x, NULL, 0, NULL, 0).number, 1);
+    is("index_alarm_count", sumbilak_index_alarm_count(x, NULL, 0, NULL, 0, 0).number, 1);
+    is("index_alarm_fraction", sumbilak_index_alarm_fraction(x, NULL, 0, NULL, 0, 0.5).number, 1);
 }
 
 int main(void)
@@ -513,6 +1034,11 @@ int main(void)
     repairs();
     edition_2();
     reserved_units();
+    opening();
+    held_index();
+    held_index_2();
+    refused_calls();
+    made_up();
     limits();
     empty_slices();
     printf("C interface: %d of %d as documents 01 and 02 have them\n", asked - failed, asked);
