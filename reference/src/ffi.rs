@@ -46,11 +46,33 @@ pub struct CShape {
     pub r: u64,
 }
 
+/// `sumbilak_index`: edition and geometry, "as sumbilak_shape answers them".
+#[repr(C)]
+#[derive(Clone, Copy, Debug, PartialEq, Eq)]
+pub struct CIndex {
+    pub edition: u64,
+    pub p: u64,
+    pub c: u64,
+    pub m: u64,
+    pub n: u64,
+    pub r: u64,
+}
+
+/// `sumbilak_opened`: the index is "all 0 beside a refusal".
+#[repr(C)]
+#[derive(Clone, Copy, Debug, PartialEq, Eq)]
+pub struct COpened {
+    pub answer: CAnswer,
+    pub index: CIndex,
+}
+
 /// Words that `load` writes: P, C, M, N, 72 unit words, 5 map words.
 pub const LOAD_WORDS: usize = 81;
+/// Words that an index has: 72 unit words, 5 map words.
+pub const INDEX_WORDS: usize = 77;
 
 mod sys {
-    use super::{CAnswer, CReport, CShape};
+    use super::{CAnswer, CIndex, COpened, CReport, CShape};
 
     extern "C" {
         pub fn sumbilak_format(
@@ -151,6 +173,126 @@ mod sys {
             len: usize,
             out: *mut u8,
             out_len: usize,
+        ) -> CAnswer;
+        pub fn sumbilak_open(
+            image: *const u8,
+            len: usize,
+            sets: *mut u64,
+            sets_len: usize,
+        ) -> COpened;
+        pub fn sumbilak_index_plan_write(
+            index: CIndex,
+            sets: *const u64,
+            sets_len: usize,
+            image: *const u8,
+            len: usize,
+            chunk: u64,
+            size: u64,
+            out: *mut u8,
+            out_len: usize,
+        ) -> CAnswer;
+        pub fn sumbilak_index_plan_discard(
+            index: CIndex,
+            sets: *const u64,
+            sets_len: usize,
+            image: *const u8,
+            len: usize,
+            chunk: u64,
+            out: *mut u8,
+            out_len: usize,
+        ) -> CAnswer;
+        pub fn sumbilak_index_check_write(
+            index: CIndex,
+            sets: *const u64,
+            sets_len: usize,
+            image: *const u8,
+            len: usize,
+            chunk: u64,
+            size: u64,
+            plan: *const u8,
+            plan_len: usize,
+        ) -> CAnswer;
+        pub fn sumbilak_index_check_discard(
+            index: CIndex,
+            sets: *const u64,
+            sets_len: usize,
+            image: *const u8,
+            len: usize,
+            chunk: u64,
+            plan: *const u8,
+            plan_len: usize,
+        ) -> CAnswer;
+        pub fn sumbilak_index_carry_write(
+            index: CIndex,
+            sets: *mut u64,
+            sets_len: usize,
+            image: *mut u8,
+            len: usize,
+            chunk: u64,
+            size: u64,
+            plan: *const u8,
+            plan_len: usize,
+            n: u64,
+        ) -> CAnswer;
+        pub fn sumbilak_index_carry_discard(
+            index: CIndex,
+            sets: *mut u64,
+            sets_len: usize,
+            image: *mut u8,
+            len: usize,
+            chunk: u64,
+            plan: *const u8,
+            plan_len: usize,
+            n: u64,
+        ) -> CAnswer;
+        pub fn sumbilak_index_access(
+            index: CIndex,
+            sets: *const u64,
+            sets_len: usize,
+            image: *const u8,
+            len: usize,
+            write: bool,
+            offset: u64,
+            length: u64,
+        ) -> CAnswer;
+        pub fn sumbilak_index_held(
+            index: CIndex,
+            sets: *const u64,
+            sets_len: usize,
+            image: *const u8,
+            len: usize,
+            chunk: u64,
+        ) -> CAnswer;
+        pub fn sumbilak_index_stored_size(
+            index: CIndex,
+            sets: *const u64,
+            sets_len: usize,
+            image: *const u8,
+            len: usize,
+            chunk: u64,
+        ) -> CAnswer;
+        pub fn sumbilak_index_report(
+            index: CIndex,
+            sets: *const u64,
+            sets_len: usize,
+            image: *const u8,
+            len: usize,
+        ) -> CReport;
+        pub fn sumbilak_index_alarm_count(
+            index: CIndex,
+            sets: *const u64,
+            sets_len: usize,
+            image: *const u8,
+            len: usize,
+            units: u64,
+        ) -> CAnswer;
+        pub fn sumbilak_index_alarm_fraction(
+            index: CIndex,
+            sets: *const u64,
+            sets_len: usize,
+            image: *const u8,
+            len: usize,
+            fraction: f64,
         ) -> CAnswer;
     }
 }
@@ -296,4 +438,247 @@ pub fn repair(image: &mut [u8], out: &mut [u8]) -> CAnswer {
 
 pub fn convert(image: &[u8], out: &mut [u8]) -> CAnswer {
     unsafe { sys::sumbilak_convert(image.as_ptr(), image.len(), out.as_mut_ptr(), out.len()) }
+}
+
+// The calls with an index are short, and are timed: their wrappers go into the
+// caller.
+
+/// `sets` is counted in words.
+#[inline]
+pub fn open(image: &[u8], sets: &mut [u64]) -> COpened {
+    unsafe { sys::sumbilak_open(image.as_ptr(), image.len(), sets.as_mut_ptr(), sets.len()) }
+}
+
+#[inline]
+pub fn index_plan_write(
+    index: CIndex,
+    sets: &[u64],
+    image: &[u8],
+    chunk: u64,
+    size: u64,
+    out: &mut [u8],
+) -> CAnswer {
+    unsafe {
+        sys::sumbilak_index_plan_write(
+            index,
+            sets.as_ptr(),
+            sets.len(),
+            image.as_ptr(),
+            image.len(),
+            chunk,
+            size,
+            out.as_mut_ptr(),
+            out.len(),
+        )
+    }
+}
+
+#[inline]
+pub fn index_plan_discard(
+    index: CIndex,
+    sets: &[u64],
+    image: &[u8],
+    chunk: u64,
+    out: &mut [u8],
+) -> CAnswer {
+    unsafe {
+        sys::sumbilak_index_plan_discard(
+            index,
+            sets.as_ptr(),
+            sets.len(),
+            image.as_ptr(),
+            image.len(),
+            chunk,
+            out.as_mut_ptr(),
+            out.len(),
+        )
+    }
+}
+
+#[inline]
+pub fn index_check_write(
+    index: CIndex,
+    sets: &[u64],
+    image: &[u8],
+    chunk: u64,
+    size: u64,
+    plan: &[u8],
+) -> CAnswer {
+    unsafe {
+        sys::sumbilak_index_check_write(
+            index,
+            sets.as_ptr(),
+            sets.len(),
+            image.as_ptr(),
+            image.len(),
+            chunk,
+            size,
+            plan.as_ptr(),
+            plan.len(),
+        )
+    }
+}
+
+#[inline]
+pub fn index_check_discard(
+    index: CIndex,
+    sets: &[u64],
+    image: &[u8],
+    chunk: u64,
+    plan: &[u8],
+) -> CAnswer {
+    unsafe {
+        sys::sumbilak_index_check_discard(
+            index,
+            sets.as_ptr(),
+            sets.len(),
+            image.as_ptr(),
+            image.len(),
+            chunk,
+            plan.as_ptr(),
+            plan.len(),
+        )
+    }
+}
+
+#[inline]
+pub fn index_carry_write(
+    index: CIndex,
+    sets: &mut [u64],
+    image: &mut [u8],
+    chunk: u64,
+    size: u64,
+    plan: &[u8],
+    n: u64,
+) -> CAnswer {
+    unsafe {
+        sys::sumbilak_index_carry_write(
+            index,
+            sets.as_mut_ptr(),
+            sets.len(),
+            image.as_mut_ptr(),
+            image.len(),
+            chunk,
+            size,
+            plan.as_ptr(),
+            plan.len(),
+            n,
+        )
+    }
+}
+
+#[inline]
+pub fn index_carry_discard(
+    index: CIndex,
+    sets: &mut [u64],
+    image: &mut [u8],
+    chunk: u64,
+    plan: &[u8],
+    n: u64,
+) -> CAnswer {
+    unsafe {
+        sys::sumbilak_index_carry_discard(
+            index,
+            sets.as_mut_ptr(),
+            sets.len(),
+            image.as_mut_ptr(),
+            image.len(),
+            chunk,
+            plan.as_ptr(),
+            plan.len(),
+            n,
+        )
+    }
+}
+
+#[inline]
+pub fn index_access(
+    index: CIndex,
+    sets: &[u64],
+    image: &[u8],
+    write: bool,
+    offset: u64,
+    length: u64,
+) -> CAnswer {
+    unsafe {
+        sys::sumbilak_index_access(
+            index,
+            sets.as_ptr(),
+            sets.len(),
+            image.as_ptr(),
+            image.len(),
+            write,
+            offset,
+            length,
+        )
+    }
+}
+
+#[inline]
+pub fn index_held(index: CIndex, sets: &[u64], image: &[u8], chunk: u64) -> CAnswer {
+    unsafe {
+        sys::sumbilak_index_held(
+            index,
+            sets.as_ptr(),
+            sets.len(),
+            image.as_ptr(),
+            image.len(),
+            chunk,
+        )
+    }
+}
+
+#[inline]
+pub fn index_stored_size(index: CIndex, sets: &[u64], image: &[u8], chunk: u64) -> CAnswer {
+    unsafe {
+        sys::sumbilak_index_stored_size(
+            index,
+            sets.as_ptr(),
+            sets.len(),
+            image.as_ptr(),
+            image.len(),
+            chunk,
+        )
+    }
+}
+
+#[inline]
+pub fn index_report(index: CIndex, sets: &[u64], image: &[u8]) -> CReport {
+    unsafe {
+        sys::sumbilak_index_report(
+            index,
+            sets.as_ptr(),
+            sets.len(),
+            image.as_ptr(),
+            image.len(),
+        )
+    }
+}
+
+#[inline]
+pub fn index_alarm_count(index: CIndex, sets: &[u64], image: &[u8], units: u64) -> CAnswer {
+    unsafe {
+        sys::sumbilak_index_alarm_count(
+            index,
+            sets.as_ptr(),
+            sets.len(),
+            image.as_ptr(),
+            image.len(),
+            units,
+        )
+    }
+}
+
+#[inline]
+pub fn index_alarm_fraction(index: CIndex, sets: &[u64], image: &[u8], fraction: f64) -> CAnswer {
+    unsafe {
+        sys::sumbilak_index_alarm_fraction(
+            index,
+            sets.as_ptr(),
+            sets.len(),
+            image.as_ptr(),
+            image.len(),
+            fraction,
+        )
+    }
 }

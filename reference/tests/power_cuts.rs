@@ -30,6 +30,8 @@ mod every_plan;
 mod exhaustive;
 #[path = "power_cuts/figures.rs"]
 mod figures;
+#[path = "power_cuts/indexed.rs"]
+mod indexed;
 #[path = "power_cuts/lists.rs"]
 mod lists;
 #[path = "power_cuts/old_link.rs"]
@@ -54,6 +56,7 @@ use std::time::Instant;
 use event::{Hand, Request, DATA, LINK, MAP};
 use exhaustive::{explore, Plans, Scope, Start, Tally};
 use figures::{print, row, table, Figures};
+use indexed::{Indexed, Uses};
 use lists::Case;
 use rules::{Library, Rules};
 use simulate::{Simulator, Violation};
@@ -232,6 +235,43 @@ fn random_event_lists() {
         assert!(accepted == 0 && refused > 100, "{hand:?}");
     }
     assert!(all.cut_linked > 100 && all.cut_partial > 100);
+}
+
+/// Lists of the same kind through the calls with a held index, opened anew after
+/// each cut and kept while plans finish.
+#[test]
+fn random_event_lists_with_an_index() {
+    let begun = Instant::now();
+    let seed = seed() ^ 0x7000;
+    let mut all = Figures::default();
+    let mut uses = Uses::default();
+    let mut failed: Option<Case> = None;
+    for (at, (shape, lists)) in (0..).zip(volumes()) {
+        let mut figures = Figures::default();
+        let (rules, lists) = (Indexed::default(), times(lists.div_ceil(3)));
+        let case = lists::run(&rules, shape, lists, mix(seed ^ at), &any, &mut figures);
+        failed = failed.or(case);
+        all += &figures;
+        uses += rules.uses();
+    }
+    println!(
+        "With an index, {:.1?}: {} lists, {} events, {} refused, {} finished, {} cut ({} with LINK \
+         landed, {} with steps missing), {} carried out on copies\n{uses:?}",
+        begun.elapsed(),
+        all.lists,
+        all.events,
+        all.refused,
+        all.finished,
+        all.cut,
+        all.cut_linked,
+        all.cut_partial,
+        all.carried,
+    );
+    if let Some(case) = failed {
+        panic!("{case}");
+    }
+    assert!(all.finished > 1000 && all.cut_linked > 1000 && all.cut_partial > 1000);
+    assert!(uses.kept > 1000 && uses.opened > 1000, "{uses:?}");
 }
 
 /// 01's three writes on the 64 KB volume.

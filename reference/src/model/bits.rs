@@ -29,6 +29,17 @@ impl<const WORDS: usize> BitSet<WORDS> {
         set
     }
 
+    /// The members below a limit of a set in lent words, of which there are at
+    /// least as many as this set has; what they hold from the limit on is left
+    /// out (Decision 102).
+    pub fn below(words: &[u64], limit: usize) -> Self {
+        let mut set = BitSet::of(0..limit);
+        for (word, lent) in set.words.iter_mut().zip(words) {
+            *word &= lent;
+        }
+        set
+    }
+
     pub fn contains(&self, bit: usize) -> bool {
         self.words[bit / 64] >> (bit % 64) & 1 != 0
     }
@@ -95,6 +106,18 @@ mod tests {
                 assert!((0..192).all(|bit| set.contains(bit) == numbers.contains(&bit)));
             }
         }
+    }
+
+    #[test]
+    fn of_lent_words_those_below_the_limit_count() {
+        let lent = [u64::MAX, 1 << 63 | 5, u64::MAX];
+        assert!(BitSet::<2>::below(&lent, 128)
+            .iter()
+            .eq((0..65).chain([66, 127])));
+        assert!(BitSet::<2>::below(&lent, 127)
+            .iter()
+            .eq((0..65).chain([66])));
+        assert!(BitSet::<2>::below(&lent, 3).iter().eq(0..3));
     }
 
     #[test]

@@ -28,18 +28,23 @@ pub struct Report {
 /// units among its N (Decision 77).
 pub fn report(image: &[u8]) -> Answer<Report> {
     let volume = Volume::open(image)?;
+    Ok(report_on(&volume, volume.mapped_chunks()))
+}
+
+/// The report by these sets and so many mapped chunks, "each difference cut off at 0; the ratios are those
+/// of these counts" (Decision 102). Of a sound image no difference is.
+pub(crate) fn report_on(volume: &Volume, mapped: u64) -> Report {
     let Geometry { p, n, .. } = volume.geometry;
-    let mapped = volume.mapped_chunks();
     let free = volume.free_units.count();
     // A unit that is not free is held; a reserved one is neither, so that both
     // together are N-R (Decision 77).
-    let held = volume.geometry.units().len() as u64 - free;
+    let held = (volume.geometry.units().len() as u64).saturating_sub(free);
     // What the mapped chunks would hold if all were stored raw.
     let raw = mapped * p as u64;
     // "Held units are those in named maps" (01). A mapped chunk names one map
     // and a map has P words, so there are at most mapped·P of them.
-    let saved = raw - held;
-    Ok(Report {
+    let saved = raw.saturating_sub(held);
+    Report {
         mapped,
         held,
         free,
@@ -52,14 +57,18 @@ pub fn report(image: &[u8]) -> Answer<Report> {
         } else {
             saved as f64 / raw as f64
         },
-    })
+    }
 }
 
 /// "It sounds when free units are below the count" (01), reserved units not
 /// among them. Any count is a good level (Decision 17).
 pub fn alarm_count(image: &[u8], units: u64) -> Answer<bool> {
-    let volume = Volume::open(image)?;
-    Ok(volume.free_units.count() < units)
+    Ok(count_sounds(&Volume::open(image)?, units))
+}
+
+/// The alarm by these sets.
+pub(crate) fn count_sounds(volume: &Volume, units: u64) -> bool {
+    volume.free_units.count() < units
 }
 
 /// It sounds when free units are "below the one rounded product fraction times
@@ -67,7 +76,11 @@ pub fn alarm_count(image: &[u8], units: u64) -> Answer<bool> {
 /// and never sounds (Decision 17). The fraction is of all N, reserved units
 /// among it (Decision 77).
 pub fn alarm_fraction(image: &[u8], fraction: f64) -> Answer<bool> {
-    let volume = Volume::open(image)?;
+    fraction_sounds(&Volume::open(image)?, fraction)
+}
+
+/// The alarm by these sets.
+pub(crate) fn fraction_sounds(volume: &Volume, fraction: f64) -> Answer<bool> {
     if !(0.0..=1.0).contains(&fraction) {
         return Err(Refusal::plain(BAD_ALARM));
     }

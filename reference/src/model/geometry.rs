@@ -8,6 +8,7 @@
 
 use core::ops::Range;
 
+use super::image::Shape;
 use super::refusals::{FOREIGN, GEOMETRY, SHORT};
 use super::{Answer, Refusal};
 
@@ -151,6 +152,18 @@ impl Geometry {
             n: n as usize,
             r: r as usize,
         })
+    }
+
+    /// The edition and the five numbers as calls answer them.
+    pub fn shape(&self) -> Shape {
+        Shape {
+            edition: self.edition.number(),
+            p: self.p as u64,
+            c: self.c as u64,
+            m: self.m as u64,
+            n: self.n as u64,
+            r: self.r as u64,
+        }
     }
 
     /// "The units that a chunk may hold are R to N-1." (Decision 75) These can

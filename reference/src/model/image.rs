@@ -1,5 +1,7 @@
 //! Format, load and shape: the image as a whole, and what makes it sound.
 
+use core::ops::Range;
+
 use super::bits::BitSet;
 use super::geometry::{Edition, Geometry, MAP_WORDS, UNIT, UNIT_WORDS, WORD};
 use super::refusals::{BAD_LINK, BAD_MAP, GEOMETRY, RANGE, SHARED};
@@ -35,12 +37,14 @@ pub struct Shape {
     pub r: u64,
 }
 
-/// A sound image, with its free sets rebuilt.
+/// What planner, checker, carrier, held words, report and alarm go by: the two
+/// tables, and the free sets. They are those of a sound image, rebuilt
+/// ([`Volume::open`]), or what an index says (`index.rs`).
 pub(crate) struct Volume<'a> {
     pub geometry: Geometry,
     pub free_units: Units,
     pub free_maps: Maps,
-    words: Words<'a>,
+    pub words: Words<'a>,
 }
 
 /// The two tables of an image whose trailer is good, as 64-bit words.
@@ -48,9 +52,7 @@ pub(crate) struct Volume<'a> {
 pub(crate) struct Words<'a> {
     logical: &'a [[u8; WORD]],
     maps: &'a [[u8; WORD]],
-    /// Words of a map, and how many of them are units'.
-    width: usize,
-    p: usize,
+    geometry: Geometry,
 }
 
 impl<'a> Words<'a> {
@@ -62,9 +64,13 @@ impl<'a> Words<'a> {
         Words {
             logical,
             maps: &rest[..geometry.m * geometry.map_words()],
-            width: geometry.map_words(),
-            p: geometry.p,
+            geometry: *geometry,
         }
+    }
+
+    /// A chunk's entry as it stands.
+    pub fn entry(self, chunk: usize) -> u64 {
+        u64::from_le_bytes(self.logical[chunk])
     }
 
     /// Chunk and map number of each mapped chunk, chunks rising.
@@ -75,16 +81,17 @@ impl<'a> Words<'a> {
 
     /// The P unit words of a map, the last ones of it.
     fn units(self, map: u64) -> impl Iterator<Item = u64> + 'a {
-        let end = (map as usize + 1) * self.width;
-        let units = &self.maps[end - self.p..end];
+        let end = (map as usize + 1) * self.geometry.map_words();
+        let units = &self.maps[end - self.geometry.p..end];
         units.iter().map(|word| u64::from_le_bytes(*word))
     }
 
     /// The size that a map keeps: "first the compressed size, then the units"
     /// (02, request 4). Edition 1 keeps none.
     pub fn size(self, map: u64) -> Option<u64> {
-        let first = map as usize * self.width;
-        (self.width > self.p).then(|| u64::from_le_bytes(self.maps[first]))
+        let first = map as usize * self.geometry.map_words();
+        let has_size = self.geometry.edition.size_words() > 0;
+        has_size.then(|| u64::from_le_bytes(self.maps[first]))
     }
 
     /// "A sound map has k equal to the size rounded up in units" (02,
@@ -94,16 +101,19 @@ impl<'a> Words<'a> {
             .is_none_or(|size| size.div_ceil(UNIT) == k as u64)
     }
 
-    /// The units of a map, up to the first X.
+    /// "What a map holds is its unit words up to the first that is not one of
+    /// R to N-1" (Decision 102). In a map of the right form these are the words
+    /// before the first X.
     pub fn held(self, map: u64) -> impl Iterator<Item = u64> + 'a {
-        self.units(map).take_while(|&word| word != X)
+        let Range { start, end } = self.geometry.units();
+        let units = start as u64..end as u64;
+        self.units(map).take_while(move |word| units.contains(word))
     }
 
     /// Whether a map "holds 1 to P units below N, then only X" (01), none of
     /// them reserved, with a size that takes just those units, if it keeps one.
-    pub fn is_well_formed(self, map: u64, geometry: &Geometry) -> bool {
-        let unit = |word: &u64| geometry.is_unit(*word);
-        let held = self.units(map).take_while(unit).count();
+    pub fn is_well_formed(self, map: u64) -> bool {
+        let held = self.held(map).count();
         let only_x = self.units(map).skip(held).all(|word| word == X);
         held > 0 && only_x && self.size_takes(map, held)
     }
@@ -194,11 +204,11 @@ impl<'a> Volume<'a> {
 
     /// The map of a chunk, if it is mapped.
     pub fn link(&self, chunk: usize) -> Option<usize> {
-        let entry = u64::from_le_bytes(self.words.logical[chunk]);
+        let entry = self.words.entry(chunk);
         (entry != X).then_some(entry as usize)
     }
 
-    /// How many units a map holds, those before the first X.
+    /// How many units a map holds.
     pub fn held_in(&self, map: usize) -> usize {
         self.words.held(map as u64).count()
     }
@@ -245,22 +255,7 @@ pub fn load(image: &[u8]) -> Answer<Loaded> {
 /// Shape. Judges the image as every entry point does, and answers its edition
 /// and geometry (Decision 71).
 pub fn shape(image: &[u8]) -> Answer<Shape> {
-    let Geometry {
-        edition,
-        p,
-        c,
-        m,
-        n,
-        r,
-    } = Volume::open(image)?.geometry;
-    Ok(Shape {
-        edition: edition.number(),
-        p: p as u64,
-        c: c as u64,
-        m: m as u64,
-        n: n as u64,
-        r: r as u64,
-    })
+    Ok(Volume::open(image)?.geometry.shape())
 }
 
 /// "A fresh image has X in every entry and every map word" (01), the size too

@@ -1,6 +1,6 @@
 //! The model: format, load, split, plan, check, carry out, report, alarm,
 //! repair and conversion on the metadata image of one compressed volume, of
-//! either edition.
+//! either edition; and the same calls with a held index ([`index`]).
 //!
 //! Nothing here allocates. Every function settles all refusals before its
 //! first store, so "a refusal changes nothing lent" (01) holds by order.
@@ -11,6 +11,7 @@ mod convert;
 mod figures;
 mod geometry;
 mod image;
+pub mod index;
 mod plan;
 mod ranges;
 mod repair;

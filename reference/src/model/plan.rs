@@ -150,7 +150,12 @@ fn write_plan(out: &mut [u8], steps: impl Iterator<Item = Step>, count: usize) -
 /// request 4) Refusals 7, 8, 9, 10 in that order; the chunk's own old units
 /// are not free (Decision 10).
 pub fn plan_write(image: &[u8], chunk: u64, size: u64, out: &mut [u8]) -> Answer<u64> {
-    let volume = Volume::open(image)?;
+    write_on(&Volume::open(image)?, chunk, size, out)
+}
+
+/// The planner's write by these sets. "A set without a free map gives the
+/// planner's core 9 with 0" (Decision 87).
+pub(crate) fn write_on(volume: &Volume, chunk: u64, size: u64, out: &mut [u8]) -> Answer<u64> {
     let geometry = volume.geometry;
     let chunk = volume.chunk(chunk)? as u32;
     let k = units_of(&geometry, size)?;
@@ -166,8 +171,9 @@ pub fn plan_write(image: &[u8], chunk: u64, size: u64, out: &mut [u8]) -> Answer
         return Err(Refusal::at(NO_ROOM, volume.free_units.count()));
     }
     let units = &units[..k];
-    // M is above C, so the C entries cannot name every map.
-    let map = volume.free_maps.iter().next().expect("a free map") as u32;
+    // M is above C, so the C entries of an image cannot name every map.
+    let map = volume.free_maps.iter().next();
+    let map = map.ok_or(Refusal::at(NO_ROOM, 0))? as u32;
 
     let data = (0..)
         .zip(units)
@@ -188,7 +194,11 @@ pub fn plan_write(image: &[u8], chunk: u64, size: u64, out: &mut [u8]) -> Answer
 /// The planner's discard. "Discard of a mapped chunk: LINK to X, FENCE. Of an
 /// unmapped one: an empty plan." (01)
 pub fn plan_discard(image: &[u8], chunk: u64, out: &mut [u8]) -> Answer<u64> {
-    let volume = Volume::open(image)?;
+    discard_on(&Volume::open(image)?, chunk, out)
+}
+
+/// The planner's discard by these tables.
+pub(crate) fn discard_on(volume: &Volume, chunk: u64, out: &mut [u8]) -> Answer<u64> {
     let chunk = volume.chunk(chunk)?;
     let count = if volume.link(chunk).is_some() { 2 } else { 0 };
     let link = Step::Link {

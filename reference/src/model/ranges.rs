@@ -63,7 +63,12 @@ pub fn split(image: &[u8], offset: u64, length: u64, out: &mut [u8]) -> Answer<u
 /// chunk's units are read in map order." A range "asked as one piece, across
 /// chunks" is row 7 (01). A read never counts as covering (Decision 16).
 pub fn access(image: &[u8], write: bool, offset: u64, length: u64) -> Answer<Access> {
-    let volume = Volume::open(image)?;
+    access_on(&Volume::open(image)?, write, offset, length)
+}
+
+/// Access by these tables: whether the entry of the chunk that the range lies in
+/// is X (Decision 101).
+pub(crate) fn access_on(volume: &Volume, write: bool, offset: u64, length: u64) -> Answer<Access> {
     let end = range_end(&volume.geometry, offset, length)?;
     let chunk_bytes = volume.geometry.chunk_bytes();
     let chunk = offset / chunk_bytes;
@@ -84,7 +89,11 @@ pub fn access(image: &[u8], write: bool, offset: u64, length: u64) -> Answer<Acc
 /// (Decision 15), as a byte range; 0..0 for an unmapped chunk. In edition 2
 /// "The words handed back are still the units" (02, request 4).
 pub fn held(image: &[u8], chunk: u64) -> Answer<Range<usize>> {
-    let volume = Volume::open(image)?;
+    held_on(&Volume::open(image)?, chunk)
+}
+
+/// Held words by these tables.
+pub(crate) fn held_on(volume: &Volume, chunk: u64) -> Answer<Range<usize>> {
     let chunk = volume.chunk(chunk)?;
     Ok(match volume.link(chunk) {
         None => 0..0,
@@ -99,7 +108,11 @@ pub fn held(image: &[u8], chunk: u64) -> Answer<Range<usize>> {
 /// 0 for an unmapped chunk" (02, request 4); in edition 2 the size word. "7 for
 /// a chunk not below C" (Decision 68).
 pub fn stored_size(image: &[u8], chunk: u64) -> Answer<u64> {
-    let volume = Volume::open(image)?;
+    stored_size_on(&Volume::open(image)?, chunk)
+}
+
+/// Stored size by these tables.
+pub(crate) fn stored_size_on(volume: &Volume, chunk: u64) -> Answer<u64> {
     let chunk = volume.chunk(chunk)?;
     Ok(volume.link(chunk).map_or(0, |map| volume.size_in(map)))
 }

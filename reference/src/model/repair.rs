@@ -52,7 +52,7 @@ fn faulty(image: &[u8], geometry: &Geometry) -> Chunks {
         // Rows 4 and 5, asked of this chunk by itself. What it names counts
         // for nobody, so only the others make claims, and none of them on a
         // reserved unit.
-        if map >= geometry.m as u64 || !words.is_well_formed(map, geometry) {
+        if map >= geometry.m as u64 || !words.is_well_formed(map) {
             faulty.insert(chunk);
             continue;
         }

@@ -165,18 +165,18 @@ fn discard_rules(volume: &Volume, chunk: usize, plan: &[u8]) -> Answer<()> {
     Ok(())
 }
 
-/// What checking and carrying out share: the image's rows, row 7 for the chunk
-/// and for the step count, row 8, row 11, lowest number first. Carrying out
-/// "7 for the chunk or for n above the whole steps, 8, then 11" (Decision 11);
-/// the checker lends no step count and passes 0, which is never too many.
+/// What checking and carrying out share once the image's rows are past: row 7
+/// for the chunk and for the step count, row 8, row 11, lowest number first.
+/// Carrying out "7 for the chunk or for n above the whole steps, 8, then 11"
+/// (Decision 11); the checker lends no step count and passes 0, which is never
+/// too many.
 pub(crate) fn judge(
-    image: &[u8],
+    volume: &Volume,
     chunk: u64,
     size: Option<u64>,
     plan: &[u8],
     n: u64,
-) -> Answer<Geometry> {
-    let volume = Volume::open(image)?;
+) -> Answer<()> {
     let chunk = volume.chunk(chunk)?;
     // "A plan's whole steps are its length / 16 rounded down, not capped at
     // 64." (Decision 11)
@@ -184,20 +184,19 @@ pub(crate) fn judge(
         return Err(Refusal::plain(RANGE));
     }
     match size {
-        Some(size) => write_rules(&volume, chunk, size, plan)?,
-        None => discard_rules(&volume, chunk, plan)?,
+        Some(size) => write_rules(volume, chunk, size, plan),
+        None => discard_rules(volume, chunk, plan),
     }
-    Ok(volume.geometry)
 }
 
 /// The checker for a write. "A request is good if its chunk is below C and a
 /// write's size is 1 to P·4,096", else 7 or 8 (Decision 12); "Refusal 9 isn't
 /// given here" (01).
 pub fn check_write(image: &[u8], chunk: u64, size: u64, plan: &[u8]) -> Answer<()> {
-    judge(image, chunk, Some(size), plan, 0).map(|_| ())
+    judge(&Volume::open(image)?, chunk, Some(size), plan, 0)
 }
 
 /// The checker for a discard.
 pub fn check_discard(image: &[u8], chunk: u64, plan: &[u8]) -> Answer<()> {
-    judge(image, chunk, None, plan, 0).map(|_| ())
+    judge(&Volume::open(image)?, chunk, None, plan, 0)
 }

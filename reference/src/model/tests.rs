@@ -4,6 +4,7 @@
 use super::*;
 
 mod edition2;
+mod held_index;
 mod lowest;
 mod repair;
 mod reserved;
