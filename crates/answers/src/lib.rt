@@ -1,4 +1,6 @@
 // What the C interface answers: the numbers of every answer and refusal, and load with its answer in words.
+#![tactic(auto)]
+
 use indexed::HeldShape;
 
 pub mod loading;
@@ -6,7 +8,7 @@ pub mod numbers;
 
 // What a call answers: number 0, with a value and an extent; or a refusal's number and place (the second for 6 alone), with value and extent 0.
 #[repr(C)]
-#[derive(Drop)]
+#[derive(Clone, Copy)]
 pub struct Answer {
     pub number: u64,
     pub place: u64,
@@ -17,7 +19,7 @@ pub struct Answer {
 
 // What a report answers: the same numbers, and the report's record, all 0 on a refusal.
 #[repr(C)]
-#[derive(Drop)]
+#[derive(Clone, Copy)]
 pub struct ReportAnswer {
     pub number: u64,
     pub place: u64,
@@ -32,7 +34,7 @@ pub struct ReportAnswer {
 
 // What a shape answers: the same numbers, and the edition with P, C, M, N and R, all 0 on a refusal.
 #[repr(C)]
-#[derive(Drop)]
+#[derive(Clone, Copy)]
 pub struct ShapeAnswer {
     pub number: u64,
     pub place: u64,
@@ -47,7 +49,7 @@ pub struct ShapeAnswer {
 
 // What opening an image answers: the same numbers, and the shape that the index holds, all 0 on a refusal.
 #[repr(C)]
-#[derive(Drop)]
+#[derive(Clone, Copy)]
 pub struct Opened {
     pub answer: Answer,
     pub index: HeldShape,

@@ -1,4 +1,6 @@
 // The arguments of the programs: numbers, fractions, words and requests.
+#![tactic(auto)]
+
 ghost use Prim.Native.Nat.{◌≤◌};
 
 use check::same;
@@ -17,13 +19,13 @@ pub const FRACTION_ROOM: usize = 64;
 pub const WORD_ROOM: usize = 16;
 
 // The arguments that are to be a request or an alarm level.
-#[derive(Drop)]
+#[derive(Clone, Copy)]
 pub enum Asked {
     For(Request),
     Malformed,
 }
 
-#[derive(Drop)]
+#[derive(Clone, Copy)]
 pub enum Threshold {
     At(Level),
     Malformed,

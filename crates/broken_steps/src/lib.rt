@@ -1,5 +1,7 @@
 // The first step of a plan that breaks a rule. The steps are seen as the checker sees them, by its
 // own pass, one at a time.
+#![tactic(auto)]
+
 ghost use Prim.Native.Nat.{◌+◌, ◌*◌, ◌≤◌};
 ghost use lib.ListN.{length};
 ghost use Rattle.layout.specs.Shaped.{Limits};

@@ -1,4 +1,6 @@
 // Carrying a plan out on the image.
+#![tactic(auto)]
+
 ghost use Rattle.std.specs.Prelude.{◌≡◌, true, ◌+◌, ◌*◌, ◌^◌, ◌≤◌, ◌<◌, length};
 ghost use Rattle.bitset.specs.Bits.{limit, in_set};
 ghost use Rattle.layout.specs.Shaped.{On};

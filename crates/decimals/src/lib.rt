@@ -1,4 +1,6 @@
 // Decimal numbers and fractions, read from text as far as their definitions go and not by what fits a machine word.
+#![tactic(auto)]
+
 pub mod fractions;
 pub mod numbers;
 
@@ -6,14 +8,14 @@ pub mod numbers;
 const MAX_NUMBER: u64 = 18446744073709551615;
 
 // What a text says that is to be a number.
-#[derive(Drop)]
+#[derive(Clone, Copy)]
 pub enum Number {
     Value(u64),
     Malformed,
 }
 
 // What a text says that is to be a fraction.
-#[derive(Drop)]
+#[derive(Clone, Copy)]
 pub enum Fraction {
     Value(f64),
     Malformed,

@@ -1,4 +1,6 @@
 // Makes a fresh volume in a new file: `fresh FILE P C M N`.
+#![tactic(auto)]
+
 fn main() {
     files::commands::fresh();
 }

@@ -1,4 +1,6 @@
 // What the programs take from the machine and give to it: arguments, files, and what is printed.
+#![tactic(auto)]
+
 use layout::Refusal;
 use report::Level;
 use steps::Request;
@@ -12,20 +14,20 @@ pub mod saying;
 pub const ARGUMENT_ROOM: usize = 131072;
 
 // The arguments that are to be a request or an alarm level.
-#[derive(Drop)]
+#[derive(Clone, Copy)]
 pub enum Asked {
     For(Request),
     Malformed,
 }
 
-#[derive(Drop)]
+#[derive(Clone, Copy)]
 pub enum Threshold {
     At(Level),
     Malformed,
 }
 
 // How a file was read: to its end, as far as there was room, or not.
-#[derive(Drop)]
+#[derive(Clone, Copy)]
 pub enum Status {
     Whole,
     Long,
@@ -33,21 +35,21 @@ pub enum Status {
 }
 
 // What was read of a file: how, and how many bytes.
-#[derive(Drop)]
+#[derive(Clone, Copy)]
 pub struct Content {
     pub status: Status,
     pub length: usize,
 }
 
 // How many bytes a file has. A pipe cannot tell.
-#[derive(Drop)]
+#[derive(Clone, Copy)]
 pub enum Length {
     Bytes(u64),
     Unknown,
 }
 
 // The word of a program's last line where it has an answer.
-#[derive(Drop)]
+#[derive(Clone, Copy)]
 pub enum Word {
     Sound,
     Formatted,
@@ -63,7 +65,7 @@ pub enum Word {
 
 // How a program's work ended. `Listed` is an answer that was printed whole, and has no last line of its own. Where it is `Unreadable`, standard error has
 // been told why.
-#[derive(Drop)]
+#[derive(Clone, Copy)]
 pub enum Outcome {
     Answered(Word),
     Listed,

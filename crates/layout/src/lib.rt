@@ -1,4 +1,6 @@
 // The layout of a volume image: its shape and limits, the trailer, format, and the refusals.
+#![tactic(auto)]
+
 pub mod format;
 pub mod geometry;
 pub mod refusals;
@@ -71,7 +73,7 @@ pub(crate) const RESERVED_AT: usize = 32;
 pub(crate) const SPARE_AT: usize = 36;
 
 // Why a call refuses: the rows of document 01's table, with the place that each gives.
-#[derive(Drop)]
+#[derive(Clone, Copy)]
 pub enum Refusal {
     Short,
     Foreign,
@@ -88,14 +90,14 @@ pub enum Refusal {
 }
 
 // What format answers.
-#[derive(Drop)]
+#[derive(Clone, Copy)]
 pub enum Formatted {
     Done,
     Refused(Refusal),
 }
 
 // What an image's trailer answers: the shape that it says, or the first refusal of rows 1 to 3.
-#[derive(Drop)]
+#[derive(Clone, Copy)]
 pub enum Trailer {
     Fits(Shape),
     Refused(Refusal),
@@ -103,7 +105,7 @@ pub enum Trailer {
 
 // The shape of a volume: its edition, document 01's P, C, M and N (units in a chunk, chunks, chunk maps, backing units), and R: the first R backing units
 // are reserved. Edition 1 has none.
-#[derive(Drop)]
+#[derive(Clone, Copy)]
 pub struct Shape {
     pub edition: u32,
     pub p: u32,

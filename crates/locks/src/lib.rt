@@ -4,6 +4,8 @@
 // number of the process that made it. Only that process removes it: one that was ended before
 // leaves it behind, and then a person has to say that nobody is changing the image. An image that
 // has two names has two locks.
+#![tactic(auto)]
+
 ghost use Rattle.io.specs.Counts.{IsPrefixLen};
 
 use decimals::{Number, numbers};

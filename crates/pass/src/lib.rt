@@ -1,11 +1,12 @@
 // One pass over a plan: what it keeps of the steps, and the verdict of document 01's rules on that.
+#![tactic(auto)]
 
 pub mod ranges;
 pub mod seeing;
 pub mod verdicts;
 
 // Rule 5: whether all stood in order so far, whether there was a LINK, whether the last step was a FENCE, and whether there was a step.
-#[derive(Drop)]
+#[derive(Clone, Copy)]
 pub struct Order {
     pub good: bool,
     pub linked: bool,
@@ -15,7 +16,7 @@ pub struct Order {
 
 // What is kept of the steps so far: tallies of rule 2's pieces, of rule 3's words and of rule 4's LINK steps; the map of the first MAP step, X before it; the
 // word that the last LINK step stores; and the order of rule 5. Words, then truth values: a copy has no padding between them to carry along.
-#[derive(Drop)]
+#[derive(Clone, Copy)]
 pub struct Seen {
     pub pieces: u64,
     pub words: u64,
@@ -26,7 +27,7 @@ pub struct Seen {
 }
 
 // What the pass over a plan answers: whether rule 1 is kept, and what was seen.
-#[derive(Drop)]
+#[derive(Clone, Copy)]
 pub struct Passed {
     pub ranged: bool,
     pub seen: Seen,

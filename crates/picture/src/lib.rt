@@ -1,5 +1,7 @@
 // The work of the program that draws a volume: what each of its units is, in rows for a terminal of
 // 80 columns.
+#![tactic(auto)]
+
 pub mod commands;
 mod drawing;
 mod owners;

@@ -1,4 +1,6 @@
 // Plans as text, a line for each step: what a line says, and why one cannot be read.
+#![tactic(auto)]
+
 use steps::Step;
 
 pub mod lines;
@@ -12,14 +14,14 @@ pub const MAX_TEXT_STEPS: usize = 2048;
 pub const MAX_FIELD: u64 = 4294967295;
 
 // A part of a line: from `start` up to, not including, `end`.
-#[derive(Drop)]
+#[derive(Clone, Copy)]
 pub struct Span {
     pub start: usize,
     pub end: usize,
 }
 
 // A word that a line has at a fixed place.
-#[derive(Drop)]
+#[derive(Clone, Copy)]
 pub enum Label {
     Unit,
     Piece,
@@ -30,7 +32,7 @@ pub enum Label {
 }
 
 // Why a line says no step. Words are counted from 0.
-#[derive(Drop)]
+#[derive(Clone, Copy)]
 pub enum Fault {
     // word 0 is no kind of step
     Kind,
@@ -45,14 +47,14 @@ pub enum Fault {
 }
 
 // What a word says that is to be a number of a step.
-#[derive(Drop)]
+#[derive(Clone, Copy)]
 pub enum Field {
     Value(u32),
     Fault(Fault),
 }
 
 // What a line says: a step, the four numbers of 16 bytes, nothing, or what cannot be read.
-#[derive(Drop)]
+#[derive(Clone, Copy)]
 pub enum Line {
     Step(Step),
     Raw { kind: u32, a: u32, b: u32, d: u32 },

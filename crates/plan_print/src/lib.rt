@@ -1,4 +1,6 @@
 // Plan files printed as text, a line for each step. The program is one call of `commands`.
+#![tactic(auto)]
+
 use plan_lines::MAX_TEXT_STEPS;
 use steps::STEP_BYTES;
 

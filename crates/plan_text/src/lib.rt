@@ -1,4 +1,6 @@
 // Plan files made from text. The program is one call of `commands`.
+#![tactic(auto)]
+
 use plan_lines::MAX_TEXT_STEPS;
 use steps::STEP_BYTES;
 
@@ -13,7 +15,7 @@ pub const PLAN_BYTES: usize = STEP_BYTES * MAX_TEXT_STEPS;
 pub const TEXT_BYTES: usize = 131072;
 
 // How far a text has been read: the steps that are stored, and whether every line could be read.
-#[derive(Drop)]
+#[derive(Clone, Copy)]
 pub struct Stored {
     pub good: bool,
     pub steps: usize,

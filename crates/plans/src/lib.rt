@@ -1,4 +1,6 @@
 // The work of the programs on plan files: planning, checking, carrying out. Each of them is one call of `commands`.
+#![tactic(auto)]
+
 use layout::{MAX_CHUNK_UNITS, MAX_MAP_WORDS};
 use rules::MAX_STEPS;
 use steps::STEP_BYTES;

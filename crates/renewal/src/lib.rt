@@ -1,4 +1,6 @@
 // The sets of an index: how they change when a plan's LINK is carried out.
+#![tactic(auto)]
+
 use image::{MAP_SET_WORDS, UNIT_SET_WORDS};
 
 pub mod linked;

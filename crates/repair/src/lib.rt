@@ -1,4 +1,6 @@
 // The repair of a damaged image: the chunks with a fault are unlinked, and nothing else changes.
+#![tactic(auto)]
+
 use image::{MAP_SET_WORDS, UNIT_SET_WORDS};
 use layout::Refusal;
 
@@ -15,7 +17,7 @@ const FIRST_MAP_CLAIM: usize = 64 * UNIT_SET_WORDS;
 const CLAIM_WORDS: usize = UNIT_SET_WORDS + MAP_SET_WORDS;
 
 // What a repair answers: how many chunks it unlinked, or a refusal.
-#[derive(Drop)]
+#[derive(Clone, Copy)]
 pub enum Repaired {
     Unlinked(u32),
     Refused(Refusal),

@@ -1,4 +1,6 @@
 // The work of the programs that repair image files.
+#![tactic(auto)]
+
 pub mod commands;
 mod lists;
 pub mod repairing;

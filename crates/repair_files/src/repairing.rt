@@ -14,7 +14,7 @@ const LIST_ROOM: usize = NUMBER_BYTES * MAX_CHUNKS as usize;
 
 // What a pass over an image file is for: its list alone, whether there is anything to repair, or the
 // repair, which holds the image's lock.
-#[derive(Drop)]
+#[derive(Clone, Copy)]
 pub enum Aim {
     Look,
     Check,
@@ -22,7 +22,7 @@ pub enum Aim {
 }
 
 // How a pass ended, and whether it found damage that is still to be repaired.
-#[derive(Drop)]
+#[derive(Clone, Copy)]
 pub struct Pass {
     pub outcome: Outcome,
     pub damaged: bool,

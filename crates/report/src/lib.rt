@@ -1,4 +1,6 @@
 // The space report of a volume, and its alarm.
+#![tactic(auto)]
+
 pub mod alarms;
 pub mod reports;
 
@@ -7,7 +9,7 @@ use layout::Refusal;
 
 // Mapped chunks, held, free and saved units, held / N and saved / (mapped * P). Saved units are mapped * P less held; the last ratio is 0.0 when
 // nothing is mapped.
-#[derive(Drop)]
+#[derive(Clone, Copy)]
 pub struct Report {
     pub mapped: u32,
     pub held: u32,
@@ -18,21 +20,21 @@ pub struct Report {
 }
 
 // What `report` answers: the verdict on the image and, of a sound one, its report. Otherwise the report is all 0.
-#[derive(Drop)]
+#[derive(Clone, Copy)]
 pub struct Reported {
     pub verdict: Verdict,
     pub report: Report,
 }
 
 // An alarm level: a count of free units, or a fraction of N.
-#[derive(Drop)]
+#[derive(Clone, Copy)]
 pub enum Level {
     Count(u64),
     Fraction(f64),
 }
 
 // What `alarm` answers.
-#[derive(Drop)]
+#[derive(Clone, Copy)]
 pub enum Alarm {
     Sounds,
     Silent,

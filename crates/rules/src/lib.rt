@@ -1,8 +1,10 @@
 // Document 01's five rules of a plan, and what the checker answers.
+#![tactic(auto)]
+
 use layout::Refusal;
 
 // What the checker answers.
-#[derive(Drop)]
+#[derive(Clone, Copy)]
 pub enum Checked {
     Accepted,
     Refused(Refusal),

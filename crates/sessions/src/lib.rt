@@ -1,1 +1,2 @@
 // Request 7 over whole lists of calls and events: definitions and proofs, no code.
+#![tactic(auto)]

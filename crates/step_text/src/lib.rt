@@ -1,4 +1,6 @@
 // The steps of a plan in words, on standard output or on standard error.
+#![tactic(auto)]
+
 use libc::STDOUT_FILENO;
 use steps::reading::step_at;
 use steps::{Decoded, STEP_BYTES, Step, Value};

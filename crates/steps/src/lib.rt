@@ -1,4 +1,6 @@
 // Plans: the steps of a write or a discard, their 16 bytes both ways, the reader of a plan, and what a request says.
+#![tactic(auto)]
+
 mod decode;
 pub mod encode;
 pub mod reading;
@@ -20,14 +22,14 @@ pub const FENCE: u32 = 4;
 pub const ABSENT_FIELD: u32 = 4294967295;
 
 // What a MAP or LINK step stores: a number or X.
-#[derive(Drop)]
+#[derive(Clone, Copy)]
 pub enum Value {
     Number(u32),
     Absent,
 }
 
 // The four kinds of step. `write` is a DATA step's last field, which rule 1 wants 0.
-#[derive(Drop)]
+#[derive(Clone, Copy)]
 pub enum Step {
     Data { unit: u32, piece: u32, write: u32 },
     Map { map: u32, word: u32, value: Value },
@@ -36,35 +38,35 @@ pub enum Step {
 }
 
 // What 16 bytes say: a step, or none: another kind, or a LINK or FENCE whose unused fields are not 0.
-#[derive(Drop)]
+#[derive(Clone, Copy)]
 pub enum Decoded {
     Whole(Step),
     Malformed,
 }
 
 // What a plan is for: a write of a compressed size, or a discard.
-#[derive(Drop)]
+#[derive(Clone, Copy)]
 pub enum Request {
     Write { chunk: u64, size: u64 },
     Discard { chunk: u64 },
 }
 
 // What a plan has at a position: what its next 16 bytes say, or the end of its whole steps.
-#[derive(Drop)]
+#[derive(Clone, Copy)]
 pub enum Found {
     Next(Decoded),
     End,
 }
 
 // A plan, and how many of its steps have been read.
-#[derive(Drop)]
+#[derive(Clone, Copy)]
 pub struct Reader<'a> {
     pub plan: &'a [u8],
     pub at: usize,
 }
 
 // What a reader found, and the reader past it.
-#[derive(Drop)]
+#[derive(Clone, Copy)]
 pub struct Advanced<'a> {
     pub found: Found,
     pub rest: Reader<'a>,

@@ -1,4 +1,6 @@
 // Several image files one after the other, each after a line with its name: the programs whose stored runs are tables of cases.
+#![tactic(auto)]
+
 use files::repairing::repair_file;
 use host::Outcome;
 use host::saying::{complain, conclude, text};

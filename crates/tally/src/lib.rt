@@ -1,5 +1,7 @@
 // A tally: a word with a bit for each number below 63 that is still expected, once each. Bit 63 is set where a number comes that is not expected, or is not
 // right, and stays. A tally goes by value from step to step, so it is a word and no lent set.
+#![tactic(auto)]
+
 ghost use Rattle.std.specs.Prelude.{◌≡◌, true, false, ◌^◌, ◌≤◌, ◌<◌};
 ghost use Rattle.search.specs.Sets.{put};
 ghost use Rattle.tally.specs.Tallies.{in_word, word_of_set, expected, tick_off};
