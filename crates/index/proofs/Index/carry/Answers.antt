@@ -1,0 +1,10 @@
+-- `index::Index::carry` meets its contract: what `lent::carry` answers and leaves, and the sets that it left are those of the next index.
+use Rattle.indexed.specs.Calls.{index_of}
+use Rattle.index.proofs.Index.carry.Goals as goal
+
+pub returns : goal.returns
+returns c =
+    let x = rw c.held_shape-h.ensures at c.carry-checked.ensures in record {
+      checked_value = (x.0, λ i. index_of c.args.self.shape (x.1.1 i));
+      image_after = x.1.0;
+    }

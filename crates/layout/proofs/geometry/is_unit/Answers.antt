@@ -1,0 +1,10 @@
+-- `layout::geometry::is_unit` meets its contract: one comparison, of what is left of the number less R.
+use Rattle.std.proofs.Common.{arith}
+use Rattle.layout.proofs.Limits.{wrapped-unit}
+use Rattle.layout.proofs.geometry.is_unit.Goals as goal
+
+pub returns : goal.returns
+returns c =
+    let less = c.wrapping_sub_u64-past in
+    rw c.unit_count.ensures
+    (wrapped-unit c.args.g c.args.u less.result (omega (arith, c.ranges)) (omega (arith, c.ranges)) less.type-inv less.ensures)

@@ -1,0 +1,7 @@
+-- `sumbilak::calls::sumbilak_repair` meets its contract: the answer of `repair::mend::repair` as numbers, and the image and the list that it leaves.
+use Rattle.answers.specs.Numbers.{repaired_answer}
+use mathlib.Core.Path.{ap, ◌∙◌}
+use Rattle.sumbilak.proofs.calls.sumbilak_repair.Goals as goal
+
+pub returns : goal.returns
+returns c = (c.repaired.ensures ∙ ap repaired_answer c.repair-x.ensures.value, c.repair-x.ensures)

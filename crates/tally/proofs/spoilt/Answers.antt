@@ -1,0 +1,7 @@
+-- `tally::spoilt` meets its contract: bit 63 is put in, by `with-is`.
+use Rattle.tally.proofs.WordSets.{with-is}
+use native.Mathlib.Omega.{arith}
+use Rattle.tally.proofs.spoilt.Goals as goal
+
+pub returns : goal.returns
+returns c = rw c.bit-b.ensures (with-is c.args.left 63 (omega arith) (omega arith))
