@@ -24,33 +24,35 @@ overflow_cast-result c = let a = c.args in omega (arith, all (goal.at.overflow_c
 pub returns-then-set-last : goal.returns-then-set-last
 returns-then-set-last c = all (goal.at.returns-then-set-last c).After-count
 
-module _ (c : After-count_words) where
-  abbrev set : List ℕ
-  set = c.args.set.now
+-- n has a word: it has 64 bits, what the mask leaves of it has as many at the most, and the count is whole
+small : (c : After-count_words) → get_or c.args.set.now (c.args.n / 64) 0 < 2 ^ 64
+small c = omega (arith, c.shared_slice_known-2-1.given (c.args.n / 64))
 
-  abbrev n : ℕ
-  n = c.before.before.before.before.before.args.n
+few : (c : After-count_words) → ones (bit_and (get_or c.args.set.now (c.args.n / 64) 0) c.word_below.result) ≤ 64
+few c =
+    let a = c.args in
+    ones-le 64 _ (omega (arith, small c, and_le_l (get_or a.set.now (a.n / 64) 0) c.word_below.result))
 
-  abbrev word : ℕ
-  word = bit_and (get_or set (n / 64) 0) c.before.word_below.result
-
-  small : get_or set (n / 64) 0 < 2 ^ 64
-  small = omega (arith, c.before.before.shared-slice-known2.given (n / 64))
-
-  few : ones word ≤ 64
-  few = ones-le 64 word (omega (arith, small, and_le_l (get_or set (n / 64) 0) c.before.word_below.result))
-
-  whole : c.count-words.result + ones word ≡ length (members_below set n)
-  whole = omega (arith, c.count-words.ensures, ones-last set n (n / 64) c.before.word_below.result small c.before.word_below.ensures (omega arith))
+whole : (c : After-count_words)
+    → c.count_words.result + ones (bit_and (get_or c.args.set.now (c.args.n / 64) 0) c.word_below.result)
+    ≡ length (members_below c.args.set.now c.args.n)
+whole c =
+    let a = c.args in
+    let last = ones-last a.set.now a.n (a.n / 64) c.word_below.result (small c) c.word_below.ensures (omega arith) in
+    omega (arith, c.count_words.ensures, last)
 
 pub overflow_cast-result-2 : goal.overflow_cast-result-2
-overflow_cast-result-2 c = omega (arith, few c)
+overflow_cast-result-2 c = omega (arith, few (goal.at.overflow_cast-result-2 c).After-count_words)
 
 pub overflow_add-result : goal.overflow_add-result
-overflow_add-result c = omega (arith, whole c, members-few (set (goal.at.overflow_add-result c).After-count_words) (n c))
+overflow_add-result c =
+    let w = whole (goal.at.overflow_add-result c).After-count_words in
+    omega (arith, w, members-few c.args.set.now c.args.n)
 
 pub overflow_cast-result-3 : goal.overflow_cast-result-3
-overflow_cast-result-3 c = omega (arith, whole c, members-few (set (goal.at.overflow_cast-result-3 c).After-count_words) (n c))
+overflow_cast-result-3 c =
+    let w = whole (goal.at.overflow_cast-result-3 c).After-count_words in
+    omega (arith, w, members-few c.args.set.now c.args.n)
 
 pub returns : goal.returns
-returns c = whole c
+returns c = whole (goal.at.returns c).After-count_words

@@ -3,6 +3,8 @@ use mathlib.Core.Path.{◌≡◌}
 use native.Mathlib.Omega.{arith}
 use lib.ListN.{get_or}
 use lib.Count.{ones-le}
+use borrow.Author.Rules.{rules}
+use Rattle.search.specs.Search.{from, keep}
 use Rattle.bitset.specs.Bits.{in_set}
 use Rattle.bitset.proofs.BitSets.{word-whole}
 use Rattle.bitset.proofs.Counts.{ones_below}
@@ -11,6 +13,10 @@ use Rattle.bitset.proofs.count_words.Goals.{After-shared_slice_known-1}
 
 small : (c : After-shared_slice_known-1) → get_or c.args.set.now c.loop-i.i 0 < 2 ^ 64
 small c = omega (arith, c.type_inv.set c.loop-i.i)
+
+pub loop-i-init : goal.loop-i-init
+unfolding keep from
+loop-i-init c = search rules
 
 pub overflow_cast-n : goal.overflow_cast-n
 overflow_cast-n c = omega (arith, ones-le 64 _ (small (goal.at.overflow_cast-n c).After-shared_slice_known-1))

@@ -16,9 +16,9 @@ shape_of-out-then-out-j c = c.loop-i.invariant.same
 
 pub returns-then-out-j : goal.returns-then-out-j
 returns-then-out-j c = record {
-      value = (filling-full _ _ _ _ _ c.loop-i.invariant c.if-out-j.true).0;
-      out_after = (filling-full _ _ _ _ _ c.loop-i.invariant c.if-out-j.true).1;
-    }
+  value = (filling-full _ _ _ _ _ c.loop-i.invariant c.if-out-j.true).0;
+  out_after = (filling-full _ _ _ _ _ c.loop-i.invariant c.if-out-j.true).1;
+}
 
 pub loop-rest-init : goal.loop-rest-init
 loop-rest-init c = λ begun h.

@@ -25,9 +25,9 @@ loop-j-init c = (search rules, refl, λ f e. (e ∙ bit_set-ext _ _ unit_set_wor
 
 pub unit_word-u-requires : goal.unit_word-u-requires
 unit_word-u-requires c = record {
-      shaped = c.requires.shaped;
-      k_lt_m = (c.requires.k_lt_m.0, (unit-word (goal.at.unit_word-u-requires c).Start c.loop-j.j (omega arith)).0);
-    }
+  shaped = c.requires.shaped;
+  k_lt_m = (c.requires.k_lt_m.0, (unit-word (goal.at.unit_word-u-requires c).Start c.loop-j.j (omega arith)).0);
+}
 
 pub loop-j-preserved : goal.loop-j-preserved
 loop-j-preserved c =
@@ -35,7 +35,7 @@ loop-j-preserved c =
     let us = held_in c.args.image.now c.args.k in
     let u = unit-word (goal.at.loop-j-preserved c).Start l.j (omega arith) in (
       omega arith,
-      c.remove.auto.0 ∙ l.invariant.1,
+      c.remove.auto.set ∙ l.invariant.1,
       λ f e.
           take_more f us l.j _ (c.unit_word-u.ensures ∙ u.1) (omega arith) l.units (l.invariant.2 f e).0 (l.invariant.2 f e).1 _
           (omega (arith, u.1, u.2)) c.contains.ensures _ c.remove.ensures c.if-contains.true,

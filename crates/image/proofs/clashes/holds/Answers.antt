@@ -17,9 +17,9 @@ loop-i-init c = (search rules, refl)
 
 pub unit_word-requires : goal.unit_word-requires
 unit_word-requires c = record {
-      shaped = c.requires.shaped;
-      k_lt_m = (c.requires.k_lt_m.0, (held_word c.args.image.now c.args.g c.args.k c.loop-i.i c.requires.shaped c.requires.k_lt_m.0 (omega arith)).0);
-    }
+  shaped = c.requires.shaped;
+  k_lt_m = (c.requires.k_lt_m.0, (held_word c.args.image.now c.args.g c.args.k c.loop-i.i c.requires.shaped c.requires.k_lt_m.0 (omega arith)).0);
+}
 
 pub returns-then-u-unit_word : goal.returns-then-u-unit_word
 returns-then-u-unit_word c =

@@ -22,9 +22,9 @@ unit_word-requires c =
 
 pub holds-requires : goal.holds-requires
 holds-requires c = record {
-      shaped = c.requires.shaped;
-      k_lt_m = (c.requires.k_lt_m.0, c.held_count-count.ensures);
-    }
+  shaped = c.requires.shaped;
+  k_lt_m = (c.requires.k_lt_m.0, c.held_count-count.ensures);
+}
 
 pub returns-then-holds : goal.returns-then-holds
 returns-then-holds c =

@@ -10,9 +10,9 @@ returns-then-i-c c =
 
 pub first_bad_map-k-requires : goal.first_bad_map-k-requires
 first_bad_map-k-requires c = record {
-      shaped = c.requires.shaped;
-      by_index = good-links c.args.image.now c.args.g c.requires.shaped.same _ c.first_bad_link-i.ensures c.if-i-c.false;
-    }
+  shaped = c.requires.shaped;
+  by_index = good-links c.args.image.now c.args.g c.requires.shaped.same _ c.first_bad_link-i.ensures c.if-i-c.false;
+}
 
 pub returns-then-k-c : goal.returns-then-k-c
 returns-then-k-c c =
@@ -21,17 +21,17 @@ returns-then-k-c c =
 
 pub first_double_claim-j-requires : goal.first_double_claim-j-requires
 first_double_claim-j-requires c = record {
-      shaped = c.requires.shaped;
-      by_index = good-links c.args.image.now c.args.g c.requires.shaped.same _ c.first_bad_link-i.ensures c.if-i-c.false;
-      units_len = c.requires.units_len;
-    }
+  shaped = c.requires.shaped;
+  by_index = good-links c.args.image.now c.args.g c.requires.shaped.same _ c.first_bad_link-i.ensures c.if-i-c.false;
+  units_len = c.requires.units_len;
+}
 
 pub first_claim-first-requires : goal.first_claim-first-requires
 first_claim-first-requires c = record {
-      shaped = c.requires.shaped;
-      by_index = good-links c.args.image.now c.args.g c.requires.shaped.same _ c.first_bad_link-i.ensures c.if-i-c.false;
-      j_lt_c = c.if-j-c.true;
-    }
+  shaped = c.requires.shaped;
+  by_index = good-links c.args.image.now c.args.g c.requires.shaped.same _ c.first_bad_link-i.ensures c.if-i-c.false;
+  j_lt_c = c.if-j-c.true;
+}
 
 pub overflow_cast-result-then-j-c : goal.overflow_cast-result-then-j-c
 overflow_cast-result-then-j-c c =

@@ -9,23 +9,23 @@ use Prim.Native.Nat.{◌-◌}
 use Rattle.image.proofs.maps.held_count.Goals as goal
 
 pub returns-then-not-is_unit : goal.returns-then-not-is_unit
-returns-then-not-is_unit c =    let s = c.args.image.now in
+returns-then-not-is_unit c = let s = c.args.image.now in
     let k = c.args.k in
     let j = c.loop-j.j in
-    let t = unit-test s c.args.g k j _ _ c.requires.shaped c.unit_word.ensures c.is_unit.ensures ∙ not-true _ c.if-not-is_unit.true in
+    let t = unit-test s c.args.g k j _ _ c.requires.shaped c.unit_word.ensures c.is_unit.ensures ∙ c.if-not-is_unit.true in
     let l = length-units_in s c.args.g k c.requires.shaped in
     omega (arith, leading-stop (is_unit (shape_of s)) (unit_words_of s k) j (omega arith) t)
 
 pub loop-j-preserved : goal.loop-j-preserved
-loop-j-preserved c =    let s = c.args.image.now in
+loop-j-preserved c = let s = c.args.image.now in
     let k = c.args.k in
     let j = c.loop-j.j in
-    let t = unit-test s c.args.g k j _ _ c.requires.shaped c.unit_word.ensures c.is_unit.ensures ∙ not-false _ c.if-not-is_unit.false in
+    let t = unit-test s c.args.g k j _ _ c.requires.shaped c.unit_word.ensures c.is_unit.ensures ∙ c.if-not-is_unit.false in
     let l = length-units_in s c.args.g k c.requires.shaped in
     (omega arith, omega (arith, leading-more (is_unit (shape_of s)) (unit_words_of s k) j (omega arith) t))
 
 pub returns : goal.returns
-returns c =    let s = c.args.image.now in
+returns c = let s = c.args.image.now in
     let k = c.args.k in
     let l = length-units_in s c.args.g k c.requires.shaped in
     omega (arith, leading_end (is_unit (shape_of s)) (unit_words_of s k) c.loop-j.j (omega arith))

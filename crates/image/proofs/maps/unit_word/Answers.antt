@@ -10,9 +10,9 @@ use Rattle.image.proofs.maps.unit_word.Goals as goal
 
 pub map_word-requires : goal.map_word-requires
 map_word-requires c = record {
-      shaped = c.requires.shaped;
-      k_lt_m = (c.requires.k_lt_m.0, omega (arith, map-words c.args.g, c.head.ensures));
-    }
+  shaped = c.requires.shaped;
+  k_lt_m = (c.requires.k_lt_m.0, omega (arith, map-words c.args.g, c.head.ensures));
+}
 
 pub returns : goal.returns
 returns c =

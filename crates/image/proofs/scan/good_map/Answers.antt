@@ -11,11 +11,11 @@ use mathlib.Core.Path.{◌∙◌, sym, ap}
 use Rattle.image.proofs.scan.good_map.Goals as goal
 
 pub returns-then-w : goal.returns-then-w
-returns-then-w c =    let w = c.link-w.ensures in
+returns-then-w c = let w = c.link-w.ensures in
     sym (absent-map c.args.image.now c.args.i (omega arith))
 
 pub held_count-h-requires : goal.held_count-h-requires
-held_count-h-requires c =    let w = c.link-w.ensures in
+held_count-h-requires c = let w = c.link-w.ensures in
     let m = ap (λ (g : Shape). g.m) c.requires.shaped.same in record {
       shaped = c.requires.shaped;
       k_lt_m = omega (arith, named-below c.args.image.now c.args.i (λ e. c.if-w.false (omega arith)) c.requires.i_lt_c.1);
@@ -45,7 +45,7 @@ returns-then-not-absent_from c =
     let named = c.if-w.false in
     let some = c.if-h-eq0.false in
     let form = good-form c.args.image.now c.args.i _ _ c.link-w.ensures named c.held_count-h.ensures some in
-    sym (form ∙ rw (← c.absent_from.ensures, not-true c.absent_from.result c.if-not-absent_from.true))
+    sym (form ∙ rw (← c.absent_from.ensures, c.if-not-absent_from.true))
 
 pub size_fits-requires : goal.size_fits-requires
 size_fits-requires c =
@@ -67,5 +67,5 @@ returns c =
     let named = c.if-w.false in
     let some = c.if-h-eq0.false in
     let form = good-form c.args.image.now c.args.i _ _ c.link-w.ensures named c.held_count-h.ensures some in
-    let rest = not-false c.absent_from.result c.if-not-absent_from.false in
+    let rest = c.if-not-absent_from.false in
     sym (form ∙ rw (← c.absent_from.ensures, rest) (sym c.size_fits.ensures))

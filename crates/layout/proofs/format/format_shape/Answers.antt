@@ -12,15 +12,15 @@ use Rattle.layout.proofs.format.format_shape.Goals.{Else-image-image_bytes, Else
 abbrev asked : Start → Shape
 asked c = record { edition = c.args.edition; p = c.args.p; c = c.args.c; m = c.args.m; n = c.args.n; r = c.args.r }
 
-limited : (c : Else-not-within_limits) → within_limits (asked c) ≡ true
-limited c = sym c.within_limits.ensures ∙ not-false c.within_limits.result c.if-not-within_limits.false
+limited : (c : Else-not-within_limits) → within_limits (record { edition = c.args.edition; p = c.args.p; c = c.args.c; m = c.args.m; n = c.args.n; r = c.args.r }) ≡ true
+limited c = sym c.within_limits.ensures ∙ c.if-not-within_limits.false
 
-sized : (c : Else-image-image_bytes) → length c.args.image.now ≡ image_bytes (asked c)
+sized : (c : Else-image-image_bytes) → length c.args.image.now ≡ image_bytes (record { edition = c.args.edition; p = c.args.p; c = c.args.c; m = c.args.m; n = c.args.n; r = c.args.r })
 sized c = c.if-image-image_bytes.false ∙ c.image_bytes.ensures.0
 
 pub returns-then-not-within_limits : goal.returns-then-not-within_limits
 returns-then-not-within_limits c =
-    let outside = not-true c.within_limits.result c.if-not-within_limits.true in record {
+    let outside = c.if-not-within_limits.true in record {
       value = (refused (asked (goal.at.returns-then-not-within_limits c).Start) c.args.image.now (bad-limits (asked (goal.at.returns-then-not-within_limits c).Start) _ (sym c.within_limits.ensures ∙ outside))).0;
       image_after = (refused (asked (goal.at.returns-then-not-within_limits c).Start) c.args.image.now (bad-limits (asked (goal.at.returns-then-not-within_limits c).Start) _ (sym c.within_limits.ensures ∙ outside))).1;
     }

@@ -7,4 +7,4 @@ pub returns : goal.returns
 returns c =
     let less = c.wrapping_sub_u64-past in
     rw c.unit_count.ensures
-    (wrapped-unit c.args.g c.args.u less.result (omega (arith, c.ranges)) (omega (arith, c.ranges)) less.type-inv less.ensures)
+    (wrapped-unit c.args.g c.args.u less.result (omega (arith, c.ranges)) (omega (arith, c.ranges)) less.type_inv less.ensures.value)

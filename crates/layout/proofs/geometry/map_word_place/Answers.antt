@@ -7,8 +7,8 @@ use Rattle.layout.proofs.geometry.map_word_place.Goals as goal
 use Rattle.layout.proofs.geometry.map_word_place.Goals.{After-map_words-w}
 
 -- the place, with the words of a map as the code has them
-placed : (c : After-map_words-w) → let c = c.args in
-    (c.k * c.map_words-w.result ≡ c.k * map_words c.g) × (map_word_place c.g c.k c.j < word_count c.g) × (word_count c.g ≤ max_words)
+placed : (c : After-map_words-w) → let a = c.args in
+    (a.k * c.map_words-w.result ≡ a.k * map_words a.g) × (map_word_place a.g a.k a.j < word_count a.g) × (word_count a.g ≤ max_words)
 placed c =
     place_of c.args.g c.args.k c.map_words-w.result c.args.j c.requires.limits c.map_words-w.ensures.0 c.requires.k_lt_m.0 c.requires.k_lt_m.1
 

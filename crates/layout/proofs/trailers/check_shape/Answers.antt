@@ -14,40 +14,40 @@ shape_of-g-requires c =
 
 pub returns-then-not-within_limits : goal.returns-then-not-within_limits
 unfolding fitting
-returns-then-not-within_limits c = rw (← c.shape_of-g.ensures, ← c.within_limits.ensures, not-true c.within_limits.result c.if-not-within_limits.true)
+returns-then-not-within_limits c = rw (← c.shape_of-g.ensures, ← c.within_limits.ensures, c.if-not-within_limits.true)
 
 pub agrees-requires : goal.agrees-requires
 agrees-requires c = let s = c.args.s.now in
     let e = ap (λ (g : Shape). g.edition) c.shape_of-g.ensures ∙ shape-edition s in
-    (omega (arith, known-long s c.requires.0), sym c.within_limits.ensures ∙ not-false _ c.if-not-within_limits.false)
+    (omega (arith, known-long s c.requires.0), sym c.within_limits.ensures ∙ c.if-not-within_limits.false)
 
 pub returns-then-not-agrees : goal.returns-then-not-agrees
 unfolding fitting
 returns-then-not-agrees c =
-    let inside = not-false c.within_limits.result c.if-not-within_limits.false in
-    let other = not-true c.agrees.result c.if-not-agrees.true in
+    let inside = c.if-not-within_limits.false in
+    let other = c.if-not-agrees.true in
     rw (← c.shape_of-g.ensures, ← c.within_limits.ensures, inside, ← c.agrees.ensures, other)
 
 pub spare_is_zero-requires : goal.spare_is_zero-requires
 spare_is_zero-requires c =
     let s = c.args.s.now in
     let e = ap (λ (g : Shape). g.edition) c.shape_of-g.ensures ∙ shape-edition s in
-    (omega (arith, known-long s c.requires.0), sym c.within_limits.ensures ∙ not-false _ c.if-not-within_limits.false)
+    (omega (arith, known-long s c.requires.0), sym c.within_limits.ensures ∙ c.if-not-within_limits.false)
 
 pub returns-then-not-spare_is_zero : goal.returns-then-not-spare_is_zero
 unfolding fitting
 returns-then-not-spare_is_zero c =
-    let inside = not-false c.within_limits.result c.if-not-within_limits.false in
-    let same = not-false c.agrees.result c.if-not-agrees.false in
-    let other = not-true c.spare_is_zero.result c.if-not-spare_is_zero.true in
+    let inside = c.if-not-within_limits.false in
+    let same = c.if-not-agrees.false in
+    let other = c.if-not-spare_is_zero.true in
     let shape = c.shape_of-g.ensures in
     rw (← shape, ← c.within_limits.ensures, inside, ← c.agrees.ensures, same, ← c.spare_is_zero.ensures, other)
 
 pub returns : goal.returns
 unfolding fitting
 returns c =
-    let inside = not-false c.within_limits.result c.if-not-within_limits.false in
-    let same = not-false c.agrees.result c.if-not-agrees.false in
-    let none = not-false c.spare_is_zero.result c.if-not-spare_is_zero.false in
+    let inside = c.if-not-within_limits.false in
+    let same = c.if-not-agrees.false in
+    let none = c.if-not-spare_is_zero.false in
     let shape = c.shape_of-g.ensures in
     rw (← shape, ← c.within_limits.ensures, inside, ← c.agrees.ensures, same, ← c.spare_is_zero.ensures, none)
