@@ -1,4 +1,4 @@
-// The exported functions: each hands its arguments on and its answer back as numbers.
+// The calls of the C interface: each hands its arguments on and its answer back as numbers.
 ghost use Rattle.std.specs.Prelude.{◌≡◌, length};
 ghost use Rattle.layout.specs.Format.{format_answer, format_image};
 ghost use Rattle.layout.specs.Layout.{edition1, edition2};
@@ -20,8 +20,7 @@ use answers::{Answer, ReportAnswer, ShapeAnswer, loading, numbers};
 use report::Level;
 use steps::Request;
 
-#[unsafe(no_mangle)]
-pub extern "C" fn sumbilak_format(image: &mut [u8], p: u64, c: u64, m: u64, n: u64) -> Answer
+pub fn sumbilak_format(image: &mut [u8], p: u64, c: u64, m: u64, n: u64) -> Answer
     ensures value { result ≡ formatted_answer (format_answer (edition1 p c m n) image.old) }
     ensures image_after { image.new ≡ format_image (edition1 p c m n) image.old }
 {
@@ -29,15 +28,7 @@ pub extern "C" fn sumbilak_format(image: &mut [u8], p: u64, c: u64, m: u64, n: u
     numbers::formatted(x)
 }
 
-#[unsafe(no_mangle)]
-pub extern "C" fn sumbilak_format2(
-    image: &mut [u8],
-    p: u64,
-    c: u64,
-    m: u64,
-    n: u64,
-    r: u64,
-) -> Answer
+pub fn sumbilak_format2(image: &mut [u8], p: u64, c: u64, m: u64, n: u64, r: u64) -> Answer
     ensures value { result ≡ formatted_answer (format_answer (edition2 p c m n r) image.old) }
     ensures image_after { image.new ≡ format_image (edition2 p c m n r) image.old }
 {
@@ -45,24 +36,21 @@ pub extern "C" fn sumbilak_format2(
     numbers::formatted(x)
 }
 
-#[unsafe(no_mangle)]
-pub extern "C" fn sumbilak_shape(image: &[u8]) -> ShapeAnswer
+pub fn sumbilak_shape(image: &[u8]) -> ShapeAnswer
     ensures { result ≡ shape_answer (loaded image.now) }
 {
     let x = loader::load::check_image(image);
     numbers::shape(x)
 }
 
-#[unsafe(no_mangle)]
-pub extern "C" fn sumbilak_load(image: &[u8], out: &mut [u64]) -> Answer
+pub fn sumbilak_load(image: &[u8], out: &mut [u64]) -> Answer
     ensures value { result ≡ load_answer image.now (length out.old) }
     ensures out_after { out.new ≡ load_out image.now out.old }
 {
     loading::load(image, out)
 }
 
-#[unsafe(no_mangle)]
-pub extern "C" fn sumbilak_split(image: &[u8], offset: u64, span: u64, out: &mut [u8]) -> Answer
+pub fn sumbilak_split(image: &[u8], offset: u64, span: u64, out: &mut [u8]) -> Answer
     ensures value { result ≡ split_answers (split_answer image.now offset span (length out.old)) }
     ensures out_after { out.new ≡ split_out image.now offset span out.old }
 {
@@ -70,32 +58,28 @@ pub extern "C" fn sumbilak_split(image: &[u8], offset: u64, span: u64, out: &mut
     numbers::split(x)
 }
 
-#[unsafe(no_mangle)]
-pub extern "C" fn sumbilak_access(image: &[u8], write: bool, offset: u64, span: u64) -> Answer
+pub fn sumbilak_access(image: &[u8], write: bool, offset: u64, span: u64) -> Answer
     ensures { result ≡ access_answers (access_answer image.now write offset span) }
 {
     let x = access::ranges::access(image, write, offset, span);
     numbers::access(x)
 }
 
-#[unsafe(no_mangle)]
-pub extern "C" fn sumbilak_held(image: &[u8], chunk: u64) -> Answer
+pub fn sumbilak_held(image: &[u8], chunk: u64) -> Answer
     ensures { result ≡ held_answer (held_of image.now chunk) }
 {
     let x = access::parts::find_held(image, chunk);
     numbers::held(x)
 }
 
-#[unsafe(no_mangle)]
-pub extern "C" fn sumbilak_stored_size(image: &[u8], chunk: u64) -> Answer
+pub fn sumbilak_stored_size(image: &[u8], chunk: u64) -> Answer
     ensures { result ≡ stored_answer (size_answer image.now chunk) }
 {
     let x = access::sizes::stored_size(image, chunk);
     numbers::stored(x)
 }
 
-#[unsafe(no_mangle)]
-pub extern "C" fn sumbilak_plan_write(image: &[u8], chunk: u64, size: u64, out: &mut [u8]) -> Answer
+pub fn sumbilak_plan_write(image: &[u8], chunk: u64, size: u64, out: &mut [u8]) -> Answer
     ensures value { result ≡ planned_answer (plan_answer image.now (Request.Write chunk size) (length out.old)) }
     ensures out_after { out.new ≡ plan_out image.now (Request.Write chunk size) out.old }
 {
@@ -103,8 +87,7 @@ pub extern "C" fn sumbilak_plan_write(image: &[u8], chunk: u64, size: u64, out: 
     numbers::planned(x)
 }
 
-#[unsafe(no_mangle)]
-pub extern "C" fn sumbilak_plan_discard(image: &[u8], chunk: u64, out: &mut [u8]) -> Answer
+pub fn sumbilak_plan_discard(image: &[u8], chunk: u64, out: &mut [u8]) -> Answer
     ensures value { result ≡ planned_answer (plan_answer image.now (Request.Discard chunk) (length out.old)) }
     ensures out_after { out.new ≡ plan_out image.now (Request.Discard chunk) out.old }
 {
@@ -112,30 +95,21 @@ pub extern "C" fn sumbilak_plan_discard(image: &[u8], chunk: u64, out: &mut [u8]
     numbers::planned(x)
 }
 
-#[unsafe(no_mangle)]
-pub extern "C" fn sumbilak_check_write(image: &[u8], chunk: u64, size: u64, plan: &[u8]) -> Answer
+pub fn sumbilak_check_write(image: &[u8], chunk: u64, size: u64, plan: &[u8]) -> Answer
     ensures { result ≡ checked_answer (checked image.now (Request.Write chunk size) plan.now) }
 {
     let x = checker::check::check(image, Request::Write { chunk, size }, plan);
     numbers::checked(x)
 }
 
-#[unsafe(no_mangle)]
-pub extern "C" fn sumbilak_check_discard(image: &[u8], chunk: u64, plan: &[u8]) -> Answer
+pub fn sumbilak_check_discard(image: &[u8], chunk: u64, plan: &[u8]) -> Answer
     ensures { result ≡ checked_answer (checked image.now (Request.Discard chunk) plan.now) }
 {
     let x = checker::check::check(image, Request::Discard { chunk }, plan);
     numbers::checked(x)
 }
 
-#[unsafe(no_mangle)]
-pub extern "C" fn sumbilak_carry_write(
-    image: &mut [u8],
-    chunk: u64,
-    size: u64,
-    plan: &[u8],
-    n: u64,
-) -> Answer
+pub fn sumbilak_carry_write(image: &mut [u8], chunk: u64, size: u64, plan: &[u8], n: u64) -> Answer
     ensures value { result ≡ checked_answer (carry_answer image.old (Request.Write chunk size) plan.now n) }
     ensures image_after { image.new ≡ carry_image image.old (Request.Write chunk size) plan.now n }
 {
@@ -143,13 +117,7 @@ pub extern "C" fn sumbilak_carry_write(
     numbers::checked(x)
 }
 
-#[unsafe(no_mangle)]
-pub extern "C" fn sumbilak_carry_discard(
-    image: &mut [u8],
-    chunk: u64,
-    plan: &[u8],
-    n: u64,
-) -> Answer
+pub fn sumbilak_carry_discard(image: &mut [u8], chunk: u64, plan: &[u8], n: u64) -> Answer
     ensures value { result ≡ checked_answer (carry_answer image.old (Request.Discard chunk) plan.now n) }
     ensures image_after { image.new ≡ carry_image image.old (Request.Discard chunk) plan.now n }
 {
@@ -157,32 +125,28 @@ pub extern "C" fn sumbilak_carry_discard(
     numbers::checked(x)
 }
 
-#[unsafe(no_mangle)]
-pub extern "C" fn sumbilak_report(image: &[u8]) -> ReportAnswer
+pub fn sumbilak_report(image: &[u8]) -> ReportAnswer
     ensures { result ≡ reported_answer (report_answer image.now) }
 {
     let x = report::reports::report(image);
     numbers::reported(x)
 }
 
-#[unsafe(no_mangle)]
-pub extern "C" fn sumbilak_alarm_count(image: &[u8], units: u64) -> Answer
+pub fn sumbilak_alarm_count(image: &[u8], units: u64) -> Answer
     ensures { result ≡ alarm_answers (alarm_answer image.now (Level.Count units)) }
 {
     let x = report::alarms::alarm(image, Level::Count(units));
     numbers::alarm(x)
 }
 
-#[unsafe(no_mangle)]
-pub extern "C" fn sumbilak_alarm_fraction(image: &[u8], fraction: f64) -> Answer
+pub fn sumbilak_alarm_fraction(image: &[u8], fraction: f64) -> Answer
     ensures { result ≡ alarm_answers (alarm_answer image.now (Level.Fraction fraction)) }
 {
     let x = report::alarms::alarm(image, Level::Fraction(fraction));
     numbers::alarm(x)
 }
 
-#[unsafe(no_mangle)]
-pub extern "C" fn sumbilak_repair(image: &mut [u8], out: &mut [u8]) -> Answer
+pub fn sumbilak_repair(image: &mut [u8], out: &mut [u8]) -> Answer
     ensures value { result ≡ repaired_answer (repair_answer image.old (length out.old)) }
     ensures image_after { image.new ≡ repair_image image.old (length out.old) }
     ensures out_after { out.new ≡ repair_list image.old out.old }
@@ -191,8 +155,7 @@ pub extern "C" fn sumbilak_repair(image: &mut [u8], out: &mut [u8]) -> Answer
     numbers::repaired(x)
 }
 
-#[unsafe(no_mangle)]
-pub extern "C" fn sumbilak_convert(image: &[u8], out: &mut [u8]) -> Answer
+pub fn sumbilak_convert(image: &[u8], out: &mut [u8]) -> Answer
     ensures value { result ≡ converted_answer (convert_answer image.now (length out.old)) }
     ensures out_after { out.new ≡ convert_out image.now out.old }
 {

@@ -1,4 +1,4 @@
-// The exported functions with an index: each hands its arguments on and its answer back as numbers.
+// The calls of the C interface with an index: each hands its arguments on and its answer back as numbers.
 ghost use Rattle.std.specs.Prelude.{◌≡◌, length};
 ghost use Rattle.indexed.specs.Opening.{open_outcome, open_sets};
 ghost use Rattle.indexed.specs.Calls.{index_held, plan_answer_by, plan_out_by, checked_by, carry_answer_by, carry_image_by, next_sets, access_answer_by, held_of_by, size_answer_by, report_answer_by, alarm_answer_by};
@@ -9,8 +9,7 @@ use indexed::{HeldShape, lent};
 use report::Level;
 use steps::Request;
 
-#[unsafe(no_mangle)]
-pub extern "C" fn sumbilak_open(image: &[u8], sets: &mut [u64]) -> Opened
+pub fn sumbilak_open(image: &[u8], sets: &mut [u64]) -> Opened
     ensures value { result ≡ opened_answer (open_outcome image.now (length sets.old)) }
     ensures sets_after { sets.new ≡ open_sets image.now sets.old }
 {
@@ -18,8 +17,7 @@ pub extern "C" fn sumbilak_open(image: &[u8], sets: &mut [u64]) -> Opened
     numbers::opened(x)
 }
 
-#[unsafe(no_mangle)]
-pub extern "C" fn sumbilak_index_plan_write(
+pub fn sumbilak_index_plan_write(
     index: HeldShape,
     sets: &[u64],
     image: &[u8],
@@ -35,8 +33,7 @@ pub extern "C" fn sumbilak_index_plan_write(
     numbers::planned(x)
 }
 
-#[unsafe(no_mangle)]
-pub extern "C" fn sumbilak_index_plan_discard(
+pub fn sumbilak_index_plan_discard(
     index: HeldShape,
     sets: &[u64],
     image: &[u8],
@@ -51,8 +48,7 @@ pub extern "C" fn sumbilak_index_plan_discard(
     numbers::planned(x)
 }
 
-#[unsafe(no_mangle)]
-pub extern "C" fn sumbilak_index_check_write(
+pub fn sumbilak_index_check_write(
     index: HeldShape,
     sets: &[u64],
     image: &[u8],
@@ -66,8 +62,7 @@ pub extern "C" fn sumbilak_index_check_write(
     numbers::checked(x)
 }
 
-#[unsafe(no_mangle)]
-pub extern "C" fn sumbilak_index_check_discard(
+pub fn sumbilak_index_check_discard(
     index: HeldShape,
     sets: &[u64],
     image: &[u8],
@@ -80,8 +75,7 @@ pub extern "C" fn sumbilak_index_check_discard(
     numbers::checked(x)
 }
 
-#[unsafe(no_mangle)]
-pub extern "C" fn sumbilak_index_carry_write(
+pub fn sumbilak_index_carry_write(
     index: HeldShape,
     sets: &mut [u64],
     image: &mut [u8],
@@ -100,8 +94,7 @@ pub extern "C" fn sumbilak_index_carry_write(
     numbers::checked(x)
 }
 
-#[unsafe(no_mangle)]
-pub extern "C" fn sumbilak_index_carry_discard(
+pub fn sumbilak_index_carry_discard(
     index: HeldShape,
     sets: &mut [u64],
     image: &mut [u8],
@@ -119,8 +112,7 @@ pub extern "C" fn sumbilak_index_carry_discard(
     numbers::checked(x)
 }
 
-#[unsafe(no_mangle)]
-pub extern "C" fn sumbilak_index_access(
+pub fn sumbilak_index_access(
     index: HeldShape,
     sets: &[u64],
     image: &[u8],
@@ -134,21 +126,14 @@ pub extern "C" fn sumbilak_index_access(
     numbers::access(x)
 }
 
-#[unsafe(no_mangle)]
-pub extern "C" fn sumbilak_index_held(
-    index: HeldShape,
-    sets: &[u64],
-    image: &[u8],
-    chunk: u64,
-) -> Answer
+pub fn sumbilak_index_held(index: HeldShape, sets: &[u64], image: &[u8], chunk: u64) -> Answer
     ensures { result ≡ held_answer (held_of_by (index_held index sets.now) image.now chunk) }
 {
     let x = lent::find_held(index, sets, image, chunk);
     numbers::held(x)
 }
 
-#[unsafe(no_mangle)]
-pub extern "C" fn sumbilak_index_stored_size(
+pub fn sumbilak_index_stored_size(
     index: HeldShape,
     sets: &[u64],
     image: &[u8],
@@ -160,20 +145,14 @@ pub extern "C" fn sumbilak_index_stored_size(
     numbers::stored(x)
 }
 
-#[unsafe(no_mangle)]
-pub extern "C" fn sumbilak_index_report(
-    index: HeldShape,
-    sets: &[u64],
-    image: &[u8],
-) -> ReportAnswer
+pub fn sumbilak_index_report(index: HeldShape, sets: &[u64], image: &[u8]) -> ReportAnswer
     ensures { result ≡ reported_answer (report_answer_by (index_held index sets.now) image.now) }
 {
     let x = lent::report(index, sets, image);
     numbers::reported(x)
 }
 
-#[unsafe(no_mangle)]
-pub extern "C" fn sumbilak_index_alarm_count(
+pub fn sumbilak_index_alarm_count(
     index: HeldShape,
     sets: &[u64],
     image: &[u8],
@@ -185,8 +164,7 @@ pub extern "C" fn sumbilak_index_alarm_count(
     numbers::alarm(x)
 }
 
-#[unsafe(no_mangle)]
-pub extern "C" fn sumbilak_index_alarm_fraction(
+pub fn sumbilak_index_alarm_fraction(
     index: HeldShape,
     sets: &[u64],
     image: &[u8],

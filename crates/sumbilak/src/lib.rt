@@ -1,5 +1,5 @@
-// The C interface: one exported function for every entry point, on numbers and lent slices. include/sumbilak.h declares them.
+// The C interface: one function for every entry point, on numbers and lent slices. The crate sumbilak_c exports them.
 #![tactic(auto)]
 
-mod calls;
-mod holding;
+pub mod calls;
+pub mod holding;

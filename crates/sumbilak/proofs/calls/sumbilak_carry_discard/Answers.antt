@@ -5,6 +5,6 @@ use Rattle.sumbilak.proofs.calls.sumbilak_carry_discard.Goals as goal
 
 pub returns : goal.returns
 returns c = record {
-      value = c.checked.ensures ∙ ap checked_answer c.carry-x.ensures.value;
-      image_after = c.carry-x.ensures.image_after;
-    }
+  value = c.checked.ensures ∙ ap checked_answer c.carry-x.ensures.value;
+  image_after = c.carry-x.ensures.image_after;
+}

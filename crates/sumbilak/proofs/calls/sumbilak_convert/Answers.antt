@@ -5,6 +5,6 @@ use Rattle.sumbilak.proofs.calls.sumbilak_convert.Goals as goal
 
 pub returns : goal.returns
 returns c = record {
-      value = c.converted.ensures ∙ ap converted_answer c.convert-x.ensures.value;
-      out_after = c.convert-x.ensures.out_after;
-    }
+  value = c.converted.ensures ∙ ap converted_answer c.convert-x.ensures.value;
+  out_after = c.convert-x.ensures.out_after;
+}

@@ -5,6 +5,6 @@ use Rattle.sumbilak.proofs.calls.sumbilak_format2.Goals as goal
 
 pub returns : goal.returns
 returns c = record {
-      value = c.formatted.ensures ∙ ap formatted_answer c.format2-x.ensures.value;
-      image_after = c.format2-x.ensures.image_after;
-    }
+  value = c.formatted.ensures ∙ ap formatted_answer c.format2-x.ensures.value;
+  image_after = c.format2-x.ensures.image_after;
+}

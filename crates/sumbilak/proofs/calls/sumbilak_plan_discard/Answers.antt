@@ -5,6 +5,6 @@ use Rattle.sumbilak.proofs.calls.sumbilak_plan_discard.Goals as goal
 
 pub returns : goal.returns
 returns c = record {
-      value = c.planned.ensures ∙ ap planned_answer c.plan_discard-x.ensures.value;
-      out_after = c.plan_discard-x.ensures.out_after;
-    }
+  value = c.planned.ensures ∙ ap planned_answer c.plan_discard-x.ensures.value;
+  out_after = c.plan_discard-x.ensures.out_after;
+}

@@ -5,6 +5,6 @@ use Rattle.sumbilak.proofs.calls.sumbilak_split.Goals as goal
 
 pub returns : goal.returns
 returns c = record {
-      value = c.split.ensures ∙ ap split_answers c.split-x.ensures.value;
-      out_after = c.split-x.ensures.out_after;
-    }
+  value = c.split.ensures ∙ ap split_answers c.split-x.ensures.value;
+  out_after = c.split-x.ensures.out_after;
+}

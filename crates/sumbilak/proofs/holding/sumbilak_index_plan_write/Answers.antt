@@ -5,6 +5,6 @@ use Rattle.sumbilak.proofs.holding.sumbilak_index_plan_write.Goals as goal
 
 pub returns : goal.returns
 returns c = record {
-      value = c.planned.ensures ∙ ap planned_answer c.plan_write-x.ensures.value;
-      out_after = c.plan_write-x.ensures.out_after;
-    }
+  value = c.planned.ensures ∙ ap planned_answer c.plan_write-x.ensures.value;
+  out_after = c.plan_write-x.ensures.out_after;
+}

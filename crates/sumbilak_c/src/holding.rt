@@ -1,0 +1,185 @@
+// The exported functions with an index: each is the library's of that name, for C.
+ghost use Rattle.std.specs.Prelude.{◌≡◌, length};
+ghost use Rattle.indexed.specs.Opening.{open_outcome, open_sets};
+ghost use Rattle.indexed.specs.Calls.{index_held, plan_answer_by, plan_out_by, checked_by, carry_answer_by, carry_image_by, next_sets, access_answer_by, held_of_by, size_answer_by, report_answer_by, alarm_answer_by};
+ghost use Rattle.answers.specs.Numbers.{opened_answer, planned_answer, checked_answer, access_answers, held_answer, stored_answer, reported_answer, alarm_answers};
+
+use answers::{Answer, Opened, ReportAnswer};
+use indexed::HeldShape;
+use sumbilak::holding;
+
+#[unsafe(no_mangle)]
+pub extern "C" fn sumbilak_open(image: &[u8], sets: &mut [u64]) -> Opened
+    ensures value { result ≡ opened_answer (open_outcome image.now (length sets.old)) }
+    ensures sets_after { sets.new ≡ open_sets image.now sets.old }
+{
+    holding::sumbilak_open(image, sets)
+}
+
+#[unsafe(no_mangle)]
+pub extern "C" fn sumbilak_index_plan_write(
+    index: HeldShape,
+    sets: &[u64],
+    image: &[u8],
+    chunk: u64,
+    size: u64,
+    out: &mut [u8],
+) -> Answer
+    ensures value { result
+        ≡ planned_answer (plan_answer_by (index_held index sets.now) image.now (Request.Write chunk size) (length out.old)) }
+    ensures out_after { out.new ≡ plan_out_by (index_held index sets.now) image.now (Request.Write chunk size) out.old }
+{
+    holding::sumbilak_index_plan_write(index, sets, image, chunk, size, out)
+}
+
+#[unsafe(no_mangle)]
+pub extern "C" fn sumbilak_index_plan_discard(
+    index: HeldShape,
+    sets: &[u64],
+    image: &[u8],
+    chunk: u64,
+    out: &mut [u8],
+) -> Answer
+    ensures value { result
+        ≡ planned_answer (plan_answer_by (index_held index sets.now) image.now (Request.Discard chunk) (length out.old)) }
+    ensures out_after { out.new ≡ plan_out_by (index_held index sets.now) image.now (Request.Discard chunk) out.old }
+{
+    holding::sumbilak_index_plan_discard(index, sets, image, chunk, out)
+}
+
+#[unsafe(no_mangle)]
+pub extern "C" fn sumbilak_index_check_write(
+    index: HeldShape,
+    sets: &[u64],
+    image: &[u8],
+    chunk: u64,
+    size: u64,
+    plan: &[u8],
+) -> Answer
+    ensures { result ≡ checked_answer (checked_by (index_held index sets.now) image.now (Request.Write chunk size) plan.now) }
+{
+    holding::sumbilak_index_check_write(index, sets, image, chunk, size, plan)
+}
+
+#[unsafe(no_mangle)]
+pub extern "C" fn sumbilak_index_check_discard(
+    index: HeldShape,
+    sets: &[u64],
+    image: &[u8],
+    chunk: u64,
+    plan: &[u8],
+) -> Answer
+    ensures { result ≡ checked_answer (checked_by (index_held index sets.now) image.now (Request.Discard chunk) plan.now) }
+{
+    holding::sumbilak_index_check_discard(index, sets, image, chunk, plan)
+}
+
+#[unsafe(no_mangle)]
+pub extern "C" fn sumbilak_index_carry_write(
+    index: HeldShape,
+    sets: &mut [u64],
+    image: &mut [u8],
+    chunk: u64,
+    size: u64,
+    plan: &[u8],
+    n: u64,
+) -> Answer
+    ensures value { result
+        ≡ checked_answer (carry_answer_by (index_held index sets.old) image.old (Request.Write chunk size) plan.now n) }
+    ensures image_after { image.new
+        ≡ carry_image_by (index_held index sets.old) image.old (Request.Write chunk size) plan.now n }
+    ensures sets_after { sets.new ≡ next_sets (index_held index sets.old) image.old (Request.Write chunk size) plan.now n }
+{
+    holding::sumbilak_index_carry_write(index, sets, image, chunk, size, plan, n)
+}
+
+#[unsafe(no_mangle)]
+pub extern "C" fn sumbilak_index_carry_discard(
+    index: HeldShape,
+    sets: &mut [u64],
+    image: &mut [u8],
+    chunk: u64,
+    plan: &[u8],
+    n: u64,
+) -> Answer
+    ensures value { result
+        ≡ checked_answer (carry_answer_by (index_held index sets.old) image.old (Request.Discard chunk) plan.now n) }
+    ensures image_after { image.new
+        ≡ carry_image_by (index_held index sets.old) image.old (Request.Discard chunk) plan.now n }
+    ensures sets_after { sets.new ≡ next_sets (index_held index sets.old) image.old (Request.Discard chunk) plan.now n }
+{
+    holding::sumbilak_index_carry_discard(index, sets, image, chunk, plan, n)
+}
+
+#[unsafe(no_mangle)]
+pub extern "C" fn sumbilak_index_access(
+    index: HeldShape,
+    sets: &[u64],
+    image: &[u8],
+    write: bool,
+    offset: u64,
+    span: u64,
+) -> Answer
+    ensures { result ≡ access_answers (access_answer_by (index_held index sets.now) image.now write offset span) }
+{
+    holding::sumbilak_index_access(index, sets, image, write, offset, span)
+}
+
+#[unsafe(no_mangle)]
+pub extern "C" fn sumbilak_index_held(
+    index: HeldShape,
+    sets: &[u64],
+    image: &[u8],
+    chunk: u64,
+) -> Answer
+    ensures { result ≡ held_answer (held_of_by (index_held index sets.now) image.now chunk) }
+{
+    holding::sumbilak_index_held(index, sets, image, chunk)
+}
+
+#[unsafe(no_mangle)]
+pub extern "C" fn sumbilak_index_stored_size(
+    index: HeldShape,
+    sets: &[u64],
+    image: &[u8],
+    chunk: u64,
+) -> Answer
+    ensures { result ≡ stored_answer (size_answer_by (index_held index sets.now) image.now chunk) }
+{
+    holding::sumbilak_index_stored_size(index, sets, image, chunk)
+}
+
+#[unsafe(no_mangle)]
+pub extern "C" fn sumbilak_index_report(
+    index: HeldShape,
+    sets: &[u64],
+    image: &[u8],
+) -> ReportAnswer
+    ensures { result ≡ reported_answer (report_answer_by (index_held index sets.now) image.now) }
+{
+    holding::sumbilak_index_report(index, sets, image)
+}
+
+#[unsafe(no_mangle)]
+pub extern "C" fn sumbilak_index_alarm_count(
+    index: HeldShape,
+    sets: &[u64],
+    image: &[u8],
+    units: u64,
+) -> Answer
+    ensures { result ≡ alarm_answers (alarm_answer_by (index_held index sets.now) image.now (Level.Count units)) }
+{
+    holding::sumbilak_index_alarm_count(index, sets, image, units)
+}
+
+#[unsafe(no_mangle)]
+pub extern "C" fn sumbilak_index_alarm_fraction(
+    index: HeldShape,
+    sets: &[u64],
+    image: &[u8],
+    fraction: f64,
+) -> Answer
+    ensures { result ≡ alarm_answers (alarm_answer_by (index_held index sets.now) image.now (Level.Fraction fraction)) }
+{
+    holding::sumbilak_index_alarm_fraction(index, sets, image, fraction)
+}
