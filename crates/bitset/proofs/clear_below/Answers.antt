@@ -1,11 +1,10 @@
-use Prim.Native.Nat.{ℕ, ◌<◌, ◌-◌, ◌^◌}
+use Prim.Native.Nat.{ℕ, ◌<◌, ◌^◌}
 use mathlib.Core.Path.{◌∙◌}
 use native.Mathlib.Omega.{arith}
 use lib.ListN.{get_or}
 use lib.Seq.{get_or-set_other}
 use borrow.Author.Rules.{rules}
 use Rattle.search.proofs.Mapping.{store-more}
-use Rattle.bitset.specs.Bits.{bits}
 use Rattle.bitset.proofs.Others.{rest-word, rest-words}
 use Rattle.bitset.proofs.clear_below.Goals as goal
 use Rattle.bitset.proofs.clear_below.Goals.{After-slice_known-1}

@@ -1,8 +1,7 @@
 -- `bitset::count_below` meets its contract: the words before that of n, and what the mask leaves of it, or all words where n has none.
-use Prim.Native.Nat.{ℕ, ◌+◌, ◌/◌, ◌^◌, ◌≤◌, ◌<◌}
+use Prim.Native.Nat.{◌+◌, ◌/◌, ◌^◌, ◌≤◌, ◌<◌}
 use mathlib.Core.Path.{◌≡◌, ap, sym, ◌∙◌}
 use native.Mathlib.Omega.{arith}
-use mathlib.Core.List.{List}
 use lib.Bits.{bit_and, and_le_l}
 use lib.Count.{ones, ones-le}
 use lib.ListN.{length, get_or}

@@ -1,5 +1,5 @@
 -- `bitset::fill` meets its contract. The words below i are those of the numbers below n: full ones, then the one filled in part, then empty ones.
-use Prim.Native.Nat.{ℕ, ◌-◌, ◌*◌, ◌≤◌, ◌<◌}
+use Prim.Native.Nat.{ℕ, ◌*◌, ◌≤◌, ◌<◌}
 use mathlib.Core.Path.{◌≡◌}
 use lib.ListN.{length, get_or}
 use lib.Dec.{ltb}

@@ -1,5 +1,5 @@
 -- `bitset::lowest` meets its contract: the members below `end` are stored word by word, and in a word the lowest first.
-use Prim.Native.Nat.{ℕ, ◌-◌}
+use Prim.Native.Nat.{ℕ}
 use mathlib.Core.List.{List}
 use Rattle.bitset.proofs.Taking.{AtWord, InWord}
 use Rattle.bitset.proofs.lowest.Given as goal

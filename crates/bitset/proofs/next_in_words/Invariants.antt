@@ -1,5 +1,5 @@
 -- `bitset::next_in_words` meets its contract. The lowest member from word i on is the lowest from the first word on.
-use Prim.Native.Nat.{◌*◌, ◌-◌}
+use Prim.Native.Nat.{◌*◌}
 use mathlib.Core.Path.{◌≡◌}
 use Rattle.search.specs.Search.{first_or}
 use Rattle.bitset.specs.Bits.{limit, members_from}
