@@ -1,7 +1,7 @@
 -- `tally::tick_off` meets its contract: the tests are the definition's, in its order.
 use Rattle.tally.specs.Tallies.{ticked, tick_off}
 use native.Mathlib.Omega.{arith}
-use borrow.Author.Tests.{lt-ltb, le-ltb, not-true, not-false}
+use borrow.Author.Tests.{lt-ltb, le-ltb}
 use Rattle.tally.proofs.tick_off.Goals as goal
 
 pub returns-then-j-ge-WRONG : goal.returns-then-j-ge-WRONG
@@ -12,12 +12,10 @@ pub returns-then-not-both : goal.returns-then-not-both
 unfolding tick_off ticked
 returns-then-not-both c =
     let j = c.args.j in
-    let right = not-true c.both.result c.if-not-both.true in
-    rw (lt-ltb j 63 (omega arith), ← c.is_expected-due.ensures, ← c.both.ensures, right) c.spoilt-then-not-both.ensures
+    rw (lt-ltb j 63 (omega arith), ← c.is_expected-due.ensures, ← c.both.ensures, c.if-not-both.true) c.spoilt-then-not-both.ensures
 
 pub returns : goal.returns
 unfolding tick_off ticked
 returns c =
     let j = c.args.j in
-    let right = not-false c.both.result c.if-not-both.false in
-    rw (lt-ltb j 63 (omega arith), ← c.is_expected-due.ensures, ← c.both.ensures, right) c.without.ensures
+    rw (lt-ltb j 63 (omega arith), ← c.is_expected-due.ensures, ← c.both.ensures, c.if-not-both.false) c.without.ensures

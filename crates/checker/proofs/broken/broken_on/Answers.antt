@@ -14,8 +14,8 @@ returns c =
     let a = c.args in
     λ free e.
     pass-decides a.g c.requires.0 a.maps.now a.mapped a.request a.plan.now a.dealt.now
-    c.head.result c.type_size.result c.need_of-k.result c.map_words.result c.chunk_of-chunk.result
+    c.head.result c.size_of-size.result c.need_of-k.result c.map_words.result c.chunk_of-chunk.result
     (omega (arith, c.need_of-k.ensures.1))
-    c.head.ensures.0 c.type_size.ensures c.need_of-k.ensures.0 c.map_words.ensures.0 c.chunk_of-chunk.ensures
+    c.head.ensures.0 c.size_of-size.ensures c.need_of-k.ensures.0 c.map_words.ensures.0 c.chunk_of-chunk.ensures
     c.unseen-start.result c.unseen-start.ensures c.see_all-p.result c.see_all-p.ensures (not-false _ c.if-not-p.false)
     free e _ c.lowest_broken.ensures

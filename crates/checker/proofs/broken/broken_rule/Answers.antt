@@ -22,7 +22,7 @@ slice_bounds-dealt-end-2 c =
     let us = members_below a.units.now a.g.n in
     let z : length (take k zeros) ≡ k = length-take-le k zeros (omega (arith, c.need_of-k.ensures.1)) in
     let l = c.lowest-count in
-    (dealt-part zeros us _ k l.result z l.ensures.0 l.ensures.1).0
+    (dealt-part zeros us _ k l.result z l.ensures.value l.ensures.out_after).0
 
 pub slice_bounds-broken_on-end : goal.slice_bounds-broken_on-end
 slice_bounds-broken_on-end c =
@@ -31,7 +31,7 @@ slice_bounds-broken_on-end c =
     let us = members_below a.units.now a.g.n in
     let z : length (take k zeros) ≡ k = length-take-le k zeros (omega (arith, c.need_of-k.ensures.1)) in
     let l = c.lowest-count in
-    sym (length-take-le l.result _ (dealt-part zeros us _ k l.result z l.ensures.0 l.ensures.1).0)
+    sym (length-take-le l.result _ (dealt-part zeros us _ k l.result z l.ensures.value l.ensures.out_after).0)
 
 pub returns : goal.returns
 returns c =
@@ -40,5 +40,5 @@ returns c =
     let us = members_below a.units.now a.g.n in
     let z : length (take k zeros) ≡ k = length-take-le k zeros (omega (arith, c.need_of-k.ensures.1)) in
     let l = c.lowest-count in
-    let d = (dealt-part zeros us _ k l.result z l.ensures.0 l.ensures.1).1 in
+    let d = (dealt-part zeros us _ k l.result z l.ensures.value l.ensures.out_after).1 in
     c.broken_on.ensures us (d ∙ ap (λ (n : ℕ). take n us) c.need_of-k.ensures.0)

@@ -5,8 +5,8 @@ use Rattle.pass.proofs.ranges.word_in_range.Goals as goal
 
 pub returns-then-word-head : goal.returns-then-word-head
 unfolding word_in_range
-returns-then-word-head c = rw (← c.head.ensures.0, lt-ltb _ _ c.if-word-head.taken) c.is_size_value.ensures
+returns-then-word-head c = rw (← c.head.ensures.0, lt-ltb _ _ c.if-word-head.true) c.is_size_value.ensures
 
 pub returns : goal.returns
 unfolding word_in_range
-returns c = rw (← c.head.ensures.0, le-ltb _ _ c.if-word-head.left) c.value_below.ensures
+returns c = rw (← c.head.ensures.0, le-ltb _ _ c.if-word-head.false) c.value_below.ensures

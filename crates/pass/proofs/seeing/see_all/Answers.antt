@@ -4,7 +4,6 @@ use Rattle.pass.specs.Passes.{see}
 use Rattle.rules.specs.Rules.{whole_in_range}
 use Rattle.search.proofs.Ranges.{all-from-more, all-from-stop, all-from-end}
 use Rattle.search.proofs.Bools.{contradict}
-use borrow.Author.Tests.{not-true, not-false}
 use borrow.Author.Rules.{rules}
 use native.Mathlib.Omega.{arith}
 use mathlib.Core.Path.{refl, sym, ◌∙◌}
@@ -26,7 +25,7 @@ step_at-d-requires c = omega arith
 pub returns-then-not-whole_in_range : goal.returns-then-not-whole_in_range
 returns-then-not-whole_in_range c =
     let e = rw c.step_at-d.ensures at c.whole_in_range.ensures in
-    let stop = c.loop-at.invariant.1 ∙ all-from-stop _ _ _ (omega arith) (sym e ∙ not-true _ c.if-not-whole_in_range.true) in
+    let stop = c.loop-at.invariant.1 ∙ all-from-stop _ _ _ (omega arith) (sym e ∙ c.if-not-whole_in_range.true) in
     record { decides = sym stop; holds = λ h. contradict h refl }
 
 pub overflow_add-at : goal.overflow_add-at
@@ -40,7 +39,7 @@ loop-at-preserved c =
     let inv = c.loop-at.invariant in
     let e = rw c.step_at-d.ensures at c.whole_in_range.ensures in (
       omega arith,
-      inv.1 ∙ all-from-more _ _ _ (omega arith) (sym e ∙ not-false _ c.if-not-whole_in_range.false),
+      inv.1 ∙ all-from-more _ _ _ (omega arith) (sym e ∙ c.if-not-whole_in_range.false),
       fold-turn (see _ _ _) _ _ _ _ _ _ (omega arith) inv.2 c.step_at-d.ensures c.see-seen.ensures,
     )
 
