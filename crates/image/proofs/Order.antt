@@ -9,7 +9,7 @@ use lib.Dec.{eqb, ltb}
 use borrow.Author.Tests.{eqb-true, ltb-true, ltb-false, lt-ltb}
 use Rattle.layout.specs.declared.Shape.{Shape}
 use Rattle.search.specs.Search.{member, distinct, disjoint}
-use Rattle.layout.specs.Layout.{is_unit, unit_words, shape_of, known, fitting, link_of, words_of}
+use Rattle.layout.specs.Layout.{is_unit, unit_words, shape_of, link_of, words_of}
 use Rattle.image.specs.Claims.{Tested}
 use Rattle.image.specs.Soundness.{leading, mapped, units_of}
 use Rattle.image.specs.Verdicts.{good_form, clash}

@@ -2,10 +2,8 @@ use Rattle.image.proofs.Leading.{leading-more, leading-stop, leading_end}
 use Rattle.image.proofs.MapWords.{unit-test, length-units_in}
 use Rattle.layout.specs.Shaped.{unit_words_of}
 use Rattle.layout.specs.Layout.{is_unit, shape_of}
-use borrow.Author.Tests.{not-true, not-false}
 use native.Mathlib.Omega.{arith}
 use mathlib.Core.Path.{◌∙◌}
-use Prim.Native.Nat.{◌-◌}
 use Rattle.image.proofs.maps.held_count.Goals as goal
 
 pub returns-then-not-is_unit : goal.returns-then-not-is_unit

@@ -1,10 +1,9 @@
-use Prim.Native.Nat.{◌-◌}
 use mathlib.Core.Path.{◌∙◌, ap, sym}
 use mathlib.Core.Bool.{not}
 use native.Mathlib.Omega.{arith}
 use borrow.Author.Rules.{rules}
 use Rattle.layout.specs.declared.Shape.{Shape}
-use Rattle.image.specs.Verdicts.{good_link, bad_link}
+use Rattle.image.specs.Verdicts.{bad_link}
 use Rattle.search.proofs.Ranges.{lowest_start, lowest-more, lowest-found, lowest-end}
 use Rattle.image.proofs.scan.first_bad_link.Goals as goal
 

@@ -1,10 +1,9 @@
-use Prim.Native.Nat.{◌-◌}
 use mathlib.Core.Path.{◌∙◌, ap, sym}
 use mathlib.Core.Bool.{not}
 use native.Mathlib.Omega.{arith}
 use borrow.Author.Rules.{rules}
 use Rattle.layout.specs.declared.Shape.{Shape}
-use Rattle.image.specs.Verdicts.{good_map, bad_map}
+use Rattle.image.specs.Verdicts.{bad_map}
 use Rattle.search.proofs.Ranges.{lowest_start, lowest-more, lowest-found, lowest-end}
 use Rattle.image.proofs.scan.first_bad_map.Goals as goal
 

@@ -1,5 +1,4 @@
 -- `image::scan::good_map` meets its contract: the map holds a unit, only X follows its units, and its size fits them.
-use borrow.Author.Tests.{not-true, not-false}
 use Rattle.image.proofs.MapWords.{length-units_in}
 use Rattle.image.proofs.Leading.{length-leading}
 use Rattle.image.proofs.Chunks.{absent-map, named-below, bad-form, good-form}

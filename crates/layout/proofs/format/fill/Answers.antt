@@ -1,4 +1,4 @@
-use Rattle.std.proofs.Common.{◌≡◌, ℕ, ◌-◌, List, set, refl, ap, ◌∙◌, arith, length-set}
+use Rattle.std.proofs.Common.{◌≡◌, ℕ, List, set, refl, ap, ◌∙◌, arith, length-set}
 use borrow.Author.Fill.{fill_more}
 use Rattle.layout.proofs.format.fill.Goals as goal
 

@@ -1,6 +1,5 @@
 -- `layout::format::format_shape` meets its contract: the two tests say whether `formats` holds, and the stores leave the fresh image, by `fresh-run`.
 use Rattle.std.proofs.Common.{◌≡◌, true, length, sym, ◌∙◌, arith}
-use borrow.Author.Tests.{not-true, not-false}
 use Rattle.layout.specs.declared.Shape.{Shape}
 use Rattle.layout.specs.Layout.{within_limits, image_bytes}
 use Rattle.layout.proofs.Limits.{limits}

@@ -1,6 +1,5 @@
 -- `layout::trailers::check_shape` meets its contract: at each return what the callees ensure and the tests settle `fitting`.
 use Rattle.std.proofs.Common.{sym, ap, ◌∙◌, arith}
-use borrow.Author.Tests.{not-true, not-false}
 use Rattle.layout.specs.Layout.{fitting}
 use Rattle.layout.specs.declared.Shape.{Shape}
 use Rattle.layout.proofs.Limits.{edition-some, edition-last, known-long, shape-edition}
