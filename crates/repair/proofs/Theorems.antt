@@ -7,7 +7,6 @@ use mathlib.Core.List.{List, [], ◌∷◌, ◌++◌, map, append_assoc}
 use lib.ListN.{length, get_or, drop}
 use lib.Seq.{drop_at}
 use lib.Dec.{ltb}
-use borrow.Author.Rules.{zero≤}
 use borrow.Author.Tests.{ltb-true, ltb-false, lt-ltb, le-ltb}
 use Rattle.search.specs.Search.{below, member, joined}
 use Rattle.search.proofs.Members.{member-head, member-tail, no-numbers}
@@ -189,7 +188,7 @@ pub record Unchanged (s out : List ℕ) : Type 0 where
 pub tested-unchanged : (s out : List ℕ) → Tested s → Unchanged s out
 tested-unchanged s out z =
     let none = tested-none s z in
-    let a = answers s (length out) 0 (record { trailer = on_fits s z.long z.known z.fitting; count = sym (ap length none); enough = zero≤ }) in
+    let a = answers s (length out) 0 (record { trailer = on_fits s z.long z.known z.fitting; count = sym (ap length none); enough = omega arith }) in
     record {
       answer = a;
       image = ap (λ (r : Repaired). unless_refused r (repaired s) s) a ∙ tested-same s z;

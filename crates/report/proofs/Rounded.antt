@@ -4,7 +4,6 @@ use native.Mathlib.Nat.{mul_assoc, mul_comm, mul_left_comm, mul-one, mul-pos, lt
 use native.Mathlib.Omega.{arith}
 use mathlib.Core.Path.{◌≡◌, refl, sym, ap, ◌∙◌, subst}
 use mathlib.Core.Bool.{Bool, true, false, true≢false}
-use borrow.Author.Rules.{zero≤}
 use borrow.Author.Tests.{ne_eqb, le-ltb}
 use lib.Dec.{T, lit<}
 use lib.IntN.{pos}
@@ -69,7 +68,7 @@ ratio-share a b h B hb =
 -- 0 divided by a count is +0.0
 pub ratio-none : (b : ℕ) → 0 < b → b ≤ 2 ^ 53 → ratio 0 b ≡ zero64
 unfolding round
-ratio-none b B hb = ratio-rounds 0 b zero≤ B hb ∙ round_same binary64 false 0 b 0 1 B (lit< tt) (omega arith)
+ratio-none b B hb = ratio-rounds 0 b (omega arith) B hb ∙ round_same binary64 false 0 b 0 1 B (lit< tt) (omega arith)
 
 -- the product is the f64 nearest to x · n, for a finite x above 0, which is the fraction num x / den x
 pub product-rounds : (x : Float) (n : ℕ) → T (positive x) → 0 < n → n ≤ 2 ^ 53 → product x n ≡ round binary64 false (num x * n) (den x)
@@ -92,7 +91,7 @@ not-below (fin true m e) (fin u n d) s a c C p q = absurd (true≢false p.0)
 not-below (fin false m e) (fin true n d) s a c C p q = refl
 not-below (fin false m e) (fin false n d) s a c C p q =
     let none : n * up d ≡ 0 = eq_of_mul-eq-mul_right c C (n * up d) 0 (q.1 ∙ zero-mul (down d) ∙ sym (zero-mul c)) in
-    rw (none, zero-mul) (le-ltb (m * up e * down d) 0 zero≤)
+    rw (none, zero-mul) (le-ltb (m * up e * down d) 0 (omega arith))
 
 round-zero : (s : Bool) (d : ℕ) → 0 < d → HasValue (round binary64 s 0 d) s 0 d
 round-zero s d D = round_exact binary64 s 0 d 0 0 D (pow_pos 53) (pow_pos (low binary64 + suc (emax binary64))) (sym (zero-mul d))

@@ -23,6 +23,6 @@ returns-in-Sound c =
     let a = c.args in
     let o = c.check_image-o in
     let k = outcome-known a.image.now _ o.ensures _ c.in-Sound.is in record {
-      value = (split-passed a.image.now a.offset a.span a.out.now _ k.passed k.shape _ _ c.split_in.ensures).0;
-      out_after = (split-passed a.image.now a.offset a.span a.out.now _ k.passed k.shape _ _ c.split_in.ensures).1;
+      value = (split-passed a.image.now a.offset a.span a.out.now _ k.passed k.shape _ _ (c.split_in.ensures.value, c.split_in.ensures.out_after)).0;
+      out_after = (split-passed a.image.now a.offset a.span a.out.now _ k.passed k.shape _ _ (c.split_in.ensures.value, c.split_in.ensures.out_after)).1;
     }

@@ -2,7 +2,6 @@
 use mathlib.Core.Bool.{true}
 use mathlib.Core.Path.{◌≡◌, refl, sym, ◌∙◌}
 use native.Mathlib.Omega.{arith}
-use borrow.Author.Tests.{not-true, not-false}
 use Rattle.access.specs.Ranges.{good_range}
 use Rattle.access.proofs.AnswerLaws.{split-bad, split-small, split_done}
 use Rattle.access.proofs.RangeLaws.{Good, good}
@@ -11,18 +10,18 @@ use Rattle.access.proofs.ranges.split_in.Goals.{After-chunk_bytes-b, Else-not-go
 
 -- past the first test the range is good
 goods : (c : Else-not-good_range) → good_range c.args.g c.args.offset c.args.span ≡ true
-goods c = sym c.good_range.ensures ∙ not-false c.good_range.result c.if-not-good_range.left
+goods c = sym c.good_range.ensures ∙ c.if-not-good_range.false
 
 -- the bounds that it gives
 bounds : (c : After-chunk_bytes-b) → Good c.args.g c.chunk_bytes-b.result c.args.offset c.args.span
 bounds c =
-    good c.args.g c.chunk_bytes-b.result c.args.offset c.args.span c.requires c.chunk_bytes-b.ensures.0 (goods c)
+    good c.args.g c.chunk_bytes-b.result c.args.offset c.args.span c.requires c.chunk_bytes-b.ensures.0 (sym c.good_range.ensures ∙ c.if-not-good_range.false)
 
 pub returns-then-not-good_range : goal.returns-then-not-good_range
 returns-then-not-good_range c =
     let a = c.args in record {
-      value = (split-bad a.g a.offset a.span a.out.now (sym c.good_range.ensures ∙ not-true c.good_range.result c.if-not-good_range.taken)).0;
-      out_after = (split-bad a.g a.offset a.span a.out.now (sym c.good_range.ensures ∙ not-true c.good_range.result c.if-not-good_range.taken)).1;
+      value = (split-bad a.g a.offset a.span a.out.now (sym c.good_range.ensures ∙ c.if-not-good_range.true)).0;
+      out_after = (split-bad a.g a.offset a.span a.out.now (sym c.good_range.ensures ∙ c.if-not-good_range.true)).1;
     }
 
 pub overflow_add-hi : goal.overflow_add-hi
@@ -46,8 +45,8 @@ overflow_cast-result c = let z = bounds (goal.at.overflow_cast-result c).After-c
 pub returns-then-out-need : goal.returns-then-out-need
 returns-then-out-need c =
     let a = c.args in record {
-      value = (split-small a.g a.offset a.span a.out.now (goods (goal.at.returns-then-out-need c).Else-not-good_range) c.chunk_bytes-b.result c.chunk_bytes-b.ensures.0 _ refl c.if-out-need.taken).0;
-      out_after = (split-small a.g a.offset a.span a.out.now (goods (goal.at.returns-then-out-need c).Else-not-good_range) c.chunk_bytes-b.result c.chunk_bytes-b.ensures.0 _ refl c.if-out-need.taken).1;
+      value = (split-small a.g a.offset a.span a.out.now (goods (goal.at.returns-then-out-need c).Else-not-good_range) c.chunk_bytes-b.result c.chunk_bytes-b.ensures.0 _ refl c.if-out-need.true).0;
+      out_after = (split-small a.g a.offset a.span a.out.now (goods (goal.at.returns-then-out-need c).Else-not-good_range) c.chunk_bytes-b.result c.chunk_bytes-b.ensures.0 _ refl c.if-out-need.true).1;
     }
 
 pub put_pieces-requires : goal.put_pieces-requires
@@ -64,6 +63,6 @@ overflow_cast-result-2 c = let z = bounds (goal.at.overflow_cast-result-2 c).Aft
 pub returns : goal.returns
 returns c =
     let a = c.args in record {
-      value = (split_done a.g a.offset a.span a.out.now (goods (goal.at.returns c).Else-not-good_range) c.chunk_bytes-b.result c.chunk_bytes-b.ensures.0 _ refl c.if-out-need.left _ c.put_pieces.ensures).0;
-      out_after = (split_done a.g a.offset a.span a.out.now (goods (goal.at.returns c).Else-not-good_range) c.chunk_bytes-b.result c.chunk_bytes-b.ensures.0 _ refl c.if-out-need.left _ c.put_pieces.ensures).1;
+      value = (split_done a.g a.offset a.span a.out.now (goods (goal.at.returns c).Else-not-good_range) c.chunk_bytes-b.result c.chunk_bytes-b.ensures.0 _ refl c.if-out-need.false _ c.put_pieces.ensures).0;
+      out_after = (split_done a.g a.offset a.span a.out.now (goods (goal.at.returns c).Else-not-good_range) c.chunk_bytes-b.result c.chunk_bytes-b.ensures.0 _ refl c.if-out-need.false _ c.put_pieces.ensures).1;
     }

@@ -13,4 +13,4 @@ returns-then-chunk-g c =
     size_in c.args.image.now c.args.g c.requires.shaped c.args.chunk c.if-chunk-g.true _ c.size_in.ensures
 
 pub returns : goal.returns
-returns c =size-out c.args.image.now c.args.g c.requires.shaped c.args.chunk c.if-chunk-g.false
+returns c = size-out c.args.image.now c.args.g c.requires.shaped c.args.chunk c.if-chunk-g.false

@@ -1,6 +1,5 @@
 use Rattle.layout.specs.declared.Shape.{Shape}
 use Rattle.convert.proofs.Turns.{length-copied, copied-start, fresh-length, copied_next, copied_all}
-use borrow.Author.Rules.{zero≤}
 use lib.ListN.{length}
 use native.Mathlib.Omega.{arith}
 use Prim.Native.Nat.{◌-◌, ◌≤◌}
@@ -11,7 +10,7 @@ pub overflow_cast-c : goal.overflow_cast-c
 overflow_cast-c c = omega arith
 
 pub loop-i-init : goal.loop-i-init
-loop-i-init c =    (zero≤, refl, copied-start c.args.image.now c.args.g c.args.second c.requires.shaped c.requires.second_value.0 c.args.out.now c.requires.second_value.1)
+loop-i-init c =    (omega arith, refl, copied-start c.args.image.now c.args.g c.args.second c.requires.shaped c.requires.second_value.0 c.args.out.now c.requires.second_value.1)
 
 pub copy_chunk-requires : goal.copy_chunk-requires
 copy_chunk-requires c =    let s = c.args.image.now in

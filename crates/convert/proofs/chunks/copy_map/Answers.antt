@@ -6,13 +6,12 @@ use Rattle.convert.proofs.Putting.{puts-start, puts-turn, puts-end, puts-map}
 use Rattle.convert.specs.Convert.{second_word}
 use Rattle.image.specs.Claims.{held_in}
 use Rattle.words.proofs.Laws.{length-store}
-use borrow.Author.Rules.{zero≤}
 use lib.ListN.{length}
 use mathlib.Core.List.{map}
 use mathlib.Core.Path.{refl, sym, ap, ◌∙◌}
 use native.Mathlib.Omega.{arith}
 use Rattle.convert.proofs.chunks.copy_map.Goals as goal
-use Rattle.convert.proofs.chunks.copy_map.Goals.{After-put_u64-arg-1, Start}
+use Rattle.convert.proofs.chunks.copy_map.Goals.{Start}
 
 -- map k is one of the new image's, whose shape is within the limits
 fits : (c : Start) → Fits c.args.second c.args.k
@@ -37,24 +36,20 @@ map_word_place-at-requires c = let f = fits (goal.at.map_word_place-at-requires 
     }
 
 pub loop-j-init : goal.loop-j-init
-loop-j-init c = (zero≤, refl, puts-start _ _ _ _)
-
-abbrev start : tie.After-put-u64-arg invariant-loop decreases-loop → tie.Start invariant-loop decreases-loop
-start c = c.before.before.before.before.before.before.before.before
+loop-j-init c = (omega arith, refl, puts-start _ _ _ _)
 
 -- the word that a turn stores is one of the image's
-inside : (c : After-put_u64-arg-1)
-    → (c.map_word_place-at.result + c.loop-j.j < word_count (start c).args.second)
-    × (word_count (start c).args.second ≤ max_words)
-inside c =
-    word-in _ _ (fits (start c)) _ _ c.loop-j.j c.map_word_place-at.ensures.0
-    c.map_words-n.ensures.0 (omega arith)
-
 pub overflow_add-at : goal.overflow_add-at
-overflow_add-at c = omega (arith, inside (goal.at.overflow_add-at c).After-put_u64-arg-1)
+overflow_add-at c =
+    let inside = word-in c.args.second c.args.k (fits (goal.at.overflow_add-at c).Start) c.map_word_place-at.result c.map_words-n.result c.loop-j.j c.map_word_place-at.ensures.0
+    c.map_words-n.ensures.0 (omega arith) in
+    omega (arith, inside)
 
 pub overflow_mul-at : goal.overflow_mul-at
-overflow_mul-at c = omega (arith, inside (goal.at.overflow_mul-at c).After-put_u64-arg-1)
+overflow_mul-at c =
+    let inside = word-in c.args.second c.args.k (fits (goal.at.overflow_mul-at c).Start) c.map_word_place-at.result c.map_words-n.result c.loop-j.j c.map_word_place-at.ensures.0
+    c.map_words-n.ensures.0 (omega arith) in
+    omega (arith, inside)
 
 pub second_word-requires : goal.second_word-requires
 second_word-requires c = record {
@@ -63,7 +58,10 @@ second_word-requires c = record {
     }
 
 pub put_u64-requires : goal.put_u64-requires
-put_u64-requires c =    omega (arith, inside (goal.at.put_u64-requires c).After-put_u64-arg-1, c.loop-j.invariant.1, c.requires.k_lt_m.2)
+put_u64-requires c =
+    let inside = word-in c.args.second c.args.k (fits (goal.at.put_u64-requires c).Start) c.map_word_place-at.result c.map_words-n.result c.loop-j.j c.map_word_place-at.ensures.0
+    c.map_words-n.ensures.0 (omega arith) in
+    omega (arith, inside, c.loop-j.invariant.1, c.requires.k_lt_m.2)
 
 pub overflow_add-j : goal.overflow_add-j
 overflow_add-j c = omega arith

@@ -9,10 +9,10 @@ use mathlib.Core.Path.{◌∙◌}
 use Rattle.convert.proofs.chunks.second_word.Goals as goal
 
 pub overflow_mul-result : goal.overflow_mul-result
-overflow_mul-result c =omega (arith, held-few c.args.image.now c.args.g c.args.k c.requires.shaped, c.requires.k_lt_m.1)
+overflow_mul-result c = omega (arith, held-few c.args.image.now c.args.g c.args.k c.requires.shaped, c.requires.k_lt_m.1)
 
 pub returns-then-j-eq0 : goal.returns-then-j-eq0
-returns-then-j-eq0 c =word_size (held_in c.args.image.now c.args.k) c.args.count c.args.j c.requires.k_lt_m.1 c.if-j-eq0.true
+returns-then-j-eq0 c = word_size (held_in c.args.image.now c.args.k) c.args.count c.args.j c.requires.k_lt_m.1 c.if-j-eq0.true
 
 pub unit_word-requires : goal.unit_word-requires
 unit_word-requires c =    let s = c.args.image.now in

@@ -1,6 +1,5 @@
 -- `convert::upgrade::convert` meets its contract: 2, the refusal of the image, or what `convert_in` answers and leaves.
 use lib.ListN.{length}
-use borrow.Author.Tests.{not-true, not-false}
 use Rattle.layout.specs.declared.Shape.{Shape}
 use Rattle.layout.specs.Layout.{image_bytes}
 use Rattle.convert.specs.Convert.{second_of, if_exact}
@@ -15,7 +14,7 @@ use Rattle.convert.proofs.upgrade.convert.Goals.{Else-not-reads_as_first}
 pub returns-then-not-reads_as_first : goal.returns-then-not-reads_as_first
 returns-then-not-reads_as_first c =
     let s = c.args.image.now in
-    let other = sym c.reads_as_first.ensures ∙ not-true c.reads_as_first.result c.if-not-reads_as_first.true in
+    let other = sym c.reads_as_first.ensures ∙ c.if-not-reads_as_first.true in
     let e = answer-refused s (length c.args.out.now) _ (first-foreign s other) in record {
       value = sym e;
       out_after = left_out s c.args.out.now _ _ (sym e);
@@ -23,7 +22,7 @@ returns-then-not-reads_as_first c =
 
 -- an image that gets past the first test has its own verdict
 first : (c : Else-not-reads_as_first) → first_verdict c.args.image.now ≡ verdict c.args.image.now
-first c = first-verdict _ (sym c.reads_as_first.ensures ∙ not-false c.reads_as_first.result c.if-not-reads_as_first.false)
+first c = first-verdict _ (sym c.reads_as_first.ensures ∙ c.if-not-reads_as_first.false)
 
 pub convert_in-requires : goal.convert_in-requires
 convert_in-requires c =
@@ -51,6 +50,6 @@ returns-in-Sound c =
     let v = first (goal.at.returns-in-Sound c).Else-not-reads_as_first ∙ k.passed in
     let e = ap (λ (g : Shape). if_exact room (image_bytes (second_of g))) k.shape ∙ sym (answer-sound s room v) in
     let r = c.convert_in.ensures in record {
-      value = r.0 ∙ e;
-      out_after = r.1 ∙ left_out s c.args.out.now _ _ e;
+      value = r.value ∙ e;
+      out_after = r.out_after ∙ left_out s c.args.out.now _ _ e;
     }

@@ -11,13 +11,13 @@ use mathlib.Core.Path.{sym, ap}
 use Rattle.loader.proofs.survey.survey.Goals as goal
 
 pub slice_bounds-survey_words-end : goal.slice_bounds-survey_words-end
-slice_bounds-survey_words-end c =omega (arith, c.words_for-unit_words.ensures, ap length c.requires.units_value.0, units-high c.args.g c.requires.shaped.limits)
+slice_bounds-survey_words-end c = omega (arith, c.words_for-unit_words.ensures, ap length c.requires.units_value.0, units-high c.args.g c.requires.shaped.limits)
 
 pub slice_bounds-survey_words-end-2 : goal.slice_bounds-survey_words-end-2
 slice_bounds-survey_words-end-2 c =    sym (length-take-le c.words_for-unit_words.result c.args.units.now (omega (arith, c.words_for-unit_words.ensures, ap length c.requires.units_value.0, units-high c.args.g c.requires.shaped.limits)))
 
 pub slice_bounds-survey_words-end-3 : goal.slice_bounds-survey_words-end-3
-slice_bounds-survey_words-end-3 c =omega (arith, c.words_for-map_words.ensures, ap length c.requires.units_value.1, maps-few c.args.g c.requires.shaped.limits)
+slice_bounds-survey_words-end-3 c = omega (arith, c.words_for-map_words.ensures, ap length c.requires.units_value.1, maps-few c.args.g c.requires.shaped.limits)
 
 pub slice_bounds-survey_words-end-4 : goal.slice_bounds-survey_words-end-4
 slice_bounds-survey_words-end-4 c =    sym (length-take-le c.words_for-map_words.result c.args.maps.now (omega (arith, c.words_for-map_words.ensures, ap length c.requires.units_value.1, maps-few c.args.g c.requires.shaped.limits)))

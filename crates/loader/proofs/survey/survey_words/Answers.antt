@@ -68,20 +68,20 @@ loop-i-preserved c =    let s = c.args.image.now in
     )
 
 pub count-requires : goal.count-requires
-count-requires c =    omega (arith, units-high c.args.g c.requires.shaped.limits, ap length c.loop-i.invariant.1 ∙ length-bit_set _ (words_for c.args.g.n), c.invert.auto.0)
+count-requires c =    omega (arith, units-high c.args.g c.requires.shaped.limits, ap length c.loop-i.invariant.1 ∙ length-bit_set _ (words_for c.args.g.n), c.invert.auto.set)
 
 pub overflow_add-result : goal.overflow_add-result
 overflow_add-result c =    let z = ap length c.loop-i.invariant.1 ∙ length-bit_set _ (words_for c.args.g.n) in
-    omega (arith, c.count.ensures, members-most c.invert.new.0, c.invert.auto.0, units-high c.args.g c.requires.shaped.limits, c.requires.shaped.limits.c-high)
+    omega (arith, c.count.ensures, members-most c.invert.new.set, c.invert.auto.set, units-high c.args.g c.requires.shaped.limits, c.requires.shaped.limits.c-high)
 
 pub overflow_sub-result : goal.overflow_sub-result
-overflow_sub-result c =omega (arith, c.requires.shaped.limits.r-high)
+overflow_sub-result c = omega (arith, c.requires.shaped.limits.r-high)
 
 pub shape_of-units : goal.shape_of-units
-shape_of-units c =    omega (arith, c.invert.auto.0, ap length c.loop-i.invariant.1 ∙ length-bit_set _ (words_for c.args.g.n), ap length c.requires.units_value.0 ∙ length-replicate {A = ℕ} (words_for c.args.g.n) 0)
+shape_of-units c =    omega (arith, c.invert.auto.set, ap length c.loop-i.invariant.1 ∙ length-bit_set _ (words_for c.args.g.n), ap length c.requires.units_value.0 ∙ length-replicate {A = ℕ} (words_for c.args.g.n) 0)
 
 pub shape_of-maps : goal.shape_of-maps
-shape_of-maps c =    omega (arith, c.invert-2.auto.0, ap length c.loop-i.invariant.2 ∙ length-bit_set _ (words_for c.args.g.m), ap length c.requires.units_value.1 ∙ length-replicate {A = ℕ} (words_for c.args.g.m) 0)
+shape_of-maps c =    omega (arith, c.invert-2.auto.set, ap length c.loop-i.invariant.2 ∙ length-bit_set _ (words_for c.args.g.m), ap length c.requires.units_value.1 ∙ length-replicate {A = ℕ} (words_for c.args.g.m) 0)
 
 pub returns : goal.returns
 returns c =    survey-done c.args.image.now c.args.g c.requires.shaped c.loop-i.i (omega arith) c.loop-i.invariant.5 _ _ _ _ c.loop-i.invariant.1 c.invert.ensures c.loop-i.invariant.2 c.invert-2.ensures

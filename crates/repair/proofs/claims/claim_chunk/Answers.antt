@@ -12,7 +12,7 @@ named c =
     map-named c.args.image.now c.args.g c.args.i _ c.requires.shaped c.link-w.ensures c.if-w.false c.requires.i_lt_c.1
 
 pub returns-then-w : goal.returns-then-w
-returns-then-w c =λ xs h. counted-absent c.args.image.now c.args.i _ c.link-w.ensures xs _ _ c.if-w.true h
+returns-then-w c = λ xs h. counted-absent c.args.image.now c.args.i _ c.link-w.ensures xs _ _ c.if-w.true h
 
 pub overflow_add-k : goal.overflow_add-k
 overflow_add-k c = omega (arith, c.requires.shaped.limits, named (goal.at.overflow_add-k c).Else-w)

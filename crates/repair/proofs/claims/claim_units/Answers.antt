@@ -23,8 +23,8 @@ loop-j-preserved c =
     let w = held_word c.args.image.now c.args.g c.args.k l.j c.requires.shaped c.requires.k_lt_m.0 (omega arith) in
     let unit = c.unit_word-u.ensures ∙ w.1 in (
       omega arith,
-      c.claim.auto.0 ∙ l.invariant.1,
-      c.claim.auto.1.0 ∙ l.invariant.2,
+      c.claim.auto.once ∙ l.invariant.1,
+      c.claim.auto.again ∙ l.invariant.2,
       λ xs h. counted-more us xs l.j _ _ _ (omega arith) unit (c.claim.ensures _ (l.invariant.3 xs h)),
     )
 

@@ -16,7 +16,7 @@ named c =
 
 pub returns-then-w : goal.returns-then-w
 unfolding any
-returns-then-w c =sym (ap (any (in_set c.args.set.now)) (claims-absent c.args.image.now c.args.i _ c.link-w.ensures c.if-w.true))
+returns-then-w c = sym (ap (any (in_set c.args.set.now)) (claims-absent c.args.image.now c.args.i _ c.link-w.ensures c.if-w.true))
 
 pub overflow_add-k : goal.overflow_add-k
 overflow_add-k c = omega (arith, c.requires.shaped.limits, named (goal.at.overflow_add-k c).Else-w)

@@ -7,11 +7,10 @@ use lib.ListN.{length}
 use native.Mathlib.Omega.{arith}
 use mathlib.Core.Path.{◌≡◌, sym, ap, ◌∙◌, subst}
 use Prim.Native.Nat.{◌-◌, ◌≤◌}
-use borrow.Author.Rules.{zero≤}
 use Rattle.repair.proofs.faults.add_all_sharing.Goals as goal
 
 pub loop-j-init : goal.loop-j-init
-loop-j-init c =(zero≤, sharing-none c.args.image.now _ _ (ap (λ (g : Shape). g.c) c.requires.shaped.same) c.requires.faulty_value)
+loop-j-init c = (omega arith, sharing-none c.args.image.now _ _ (ap (λ (g : Shape). g.c) c.requires.shaped.same) c.requires.faulty_value)
 
 pub add_sharing-requires : goal.add_sharing-requires
 add_sharing-requires c = record {
@@ -28,7 +27,7 @@ pub loop-j-preserved : goal.loop-j-preserved
 loop-j-preserved c = (omega arith, c.add_sharing.ensures)
 
 pub shape_of-faulty : goal.shape_of-faulty
-shape_of-faulty c =ap length c.loop-j.invariant.1 ∙ length-bit_set _ chunk_set_words ∙ sym (ap length c.requires.faulty_value ∙ length-bit_set _ chunk_set_words)
+shape_of-faulty c = ap length c.loop-j.invariant.1 ∙ length-bit_set _ chunk_set_words ∙ sym (ap length c.requires.faulty_value ∙ length-bit_set _ chunk_set_words)
 
 pub returns : goal.returns
 returns c =    let e : c.loop-j.j ≡ c.args.g.c = omega arith in

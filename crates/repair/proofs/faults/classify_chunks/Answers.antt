@@ -6,11 +6,10 @@ use lib.ListN.{length}
 use native.Mathlib.Omega.{arith}
 use mathlib.Core.Path.{◌≡◌, sym, ap, ◌∙◌, subst}
 use Prim.Native.Nat.{◌-◌, ◌≤◌}
-use borrow.Author.Rules.{zero≤}
 use Rattle.repair.proofs.faults.classify_chunks.Goals as goal
 
 pub loop-i-init : goal.loop-i-init
-loop-i-init c =(zero≤, classified-none c.args.image.now _ c.requires.faulty_value, counted-from c.args.image.now _ _ c.requires.counted)
+loop-i-init c = (omega arith, classified-none c.args.image.now _ c.requires.faulty_value, counted-from c.args.image.now _ _ c.requires.counted)
 
 pub classify_chunk-requires : goal.classify_chunk-requires
 classify_chunk-requires c = record {
@@ -27,13 +26,13 @@ pub loop-i-preserved : goal.loop-i-preserved
 loop-i-preserved c = (omega arith, c.classify_chunk.ensures.faulty_after, c.classify_chunk.ensures.counted_2)
 
 pub shape_of-faulty : goal.shape_of-faulty
-shape_of-faulty c =ap length c.loop-i.invariant.1 ∙ length-bit_set _ chunk_set_words ∙ sym (ap length c.requires.faulty_value ∙ length-bit_set _ chunk_set_words)
+shape_of-faulty c = ap length c.loop-i.invariant.1 ∙ length-bit_set _ chunk_set_words ∙ sym (ap length c.requires.faulty_value ∙ length-bit_set _ chunk_set_words)
 
 pub shape_of-once : goal.shape_of-once
-shape_of-once c =ap length c.loop-i.invariant.2.first ∙ length-bit_set _ claim_words ∙ sym (ap length c.requires.counted.first ∙ length-bit_set _ claim_words)
+shape_of-once c = ap length c.loop-i.invariant.2.first ∙ length-bit_set _ claim_words ∙ sym (ap length c.requires.counted.first ∙ length-bit_set _ claim_words)
 
 pub shape_of-again : goal.shape_of-again
-shape_of-again c =ap length c.loop-i.invariant.2.more ∙ length-bit_set _ claim_words ∙ sym (ap length c.requires.counted.more ∙ length-bit_set _ claim_words)
+shape_of-again c = ap length c.loop-i.invariant.2.more ∙ length-bit_set _ claim_words ∙ sym (ap length c.requires.counted.more ∙ length-bit_set _ claim_words)
 
 pub returns : goal.returns
 returns c =    let e : c.loop-i.i ≡ c.args.g.c = omega arith in record {

@@ -42,11 +42,10 @@ returns-else-passes c =
     let out = a.out.now in
     let t = c.check_trailer-t in
     let r = c.repair_in.ensures in
-    let g = c.t-1 in
-    let e = answer-fits s (length out) _ (sym t.ensures ∙ g.given.1) in
-    let image = r.1.0 ∙ ap (λ (q : Repaired). unless_refused q (repaired s) s) e in
-    let list = r.1.1 ∙ ap (λ (q : Repaired). unless_refused q (listing s out) out) e in record {
-      value = r.0 ∙ e;
+    let e = answer-fits s (length out) _ (sym t.ensures ∙ c.in-Fits.is) in
+    let image = r.image_after ∙ ap (λ (q : Repaired). unless_refused q (repaired s) s) e in
+    let list = r.out_after ∙ ap (λ (q : Repaired). unless_refused q (listing s out) out) e in record {
+      value = r.value ∙ e;
       image_after = image;
       out_after = list;
     }

@@ -14,7 +14,7 @@ find_faults-requires c = record {
     }
 
 pub count-n-requires : goal.count-n-requires
-count-n-requires c =omega (arith, found-limit c.args.image.now c.args.g c.requires _ c.find_faults.ensures)
+count-n-requires c = omega (arith, found-limit c.args.image.now c.args.g c.requires _ c.find_faults.ensures)
 
 pub overflow_mul-n : goal.overflow_mul-n
 overflow_mul-n c =    let s = c.args.image.now in

@@ -4,11 +4,10 @@ use lib.ListN.{length}
 use native.Mathlib.Omega.{arith}
 use mathlib.Core.Path.{refl, sym, ap, ◌∙◌}
 use Prim.Native.Nat.{◌*◌, ◌-◌, ◌≤◌}
-use borrow.Author.Rules.{zero≤}
 use Rattle.repair.proofs.mend.unlink_members.Goals as goal
 
 pub loop-k-init : goal.loop-k-init
-loop-k-init c = (zero≤, refl, refl, omega arith, refl, refl)
+loop-k-init c = (omega arith, refl, refl, omega arith, refl, refl)
 
 pub next_member-i-requires : goal.next_member-i-requires
 next_member-i-requires c = omega arith
