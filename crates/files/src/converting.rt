@@ -13,20 +13,20 @@ use layout::trailers::check_trailer;
 use layout::{LAST_EDITION, MAX_IMAGE_BYTES, Refusal, Trailer};
 
 // Makes the file that argument 2 names of a converted image, and then prints its length.
-fn keep_converted(image: &[u8]) -> Outcome {
-    if make_file(2, image) {
-        labelled(b"bytes ", image.len() as u64);
-        text(b"\n");
+fn keep_converted(rt: HostRuntime, image: &[u8]) -> Outcome {
+    if make_file(rt, 2, image) {
+        labelled(rt, b"bytes ", image.len() as u64);
+        text(rt, b"\n");
         return Outcome::Answered(Word::Converted);
     }
     Outcome::Unreadable
 }
 
 // Converts an image into the lent room, which is to be as long as the new image.
-fn convert_into(image: &[u8], room: &mut [u8]) -> Outcome {
+fn convert_into(rt: HostRuntime, image: &[u8], room: &mut [u8]) -> Outcome {
     let answer = convert(image, room);
     match answer {
-        Converted::Bytes(_) => keep_converted(room),
+        Converted::Bytes(_) => keep_converted(rt, room),
         Converted::Refused(r) => Outcome::Refused(r),
     }
 }
@@ -42,20 +42,20 @@ fn converted_length(image: &[u8]) -> usize
     }
 }
 
-fn convert_image(image: &[u8]) -> Outcome {
+fn convert_image(rt: HostRuntime, image: &[u8]) -> Outcome {
     let length = converted_length(image);
     let mut room = image_room();
-    convert_into(image, &mut room[..length])
+    convert_into(rt, image, &mut room[..length])
 }
 
 // Converts the image that argument 1 names.
-pub(crate) fn convert_file() -> Outcome {
+pub(crate) fn convert_file(rt: HostRuntime) -> Outcome {
     let mut image = [0u8; MAX_IMAGE_BYTES];
-    let content = read_file(1, &mut image);
+    let content = read_file(rt, 1, &mut image);
     let status = content.status;
     let length = content.length;
     match status {
-        Status::Whole => convert_image(&image[..length]),
+        Status::Whole => convert_image(rt, &image[..length]),
         Status::Long => Outcome::Refused(Refusal::Geometry),
         Status::Unreadable => Outcome::Unreadable,
     }

@@ -40,11 +40,20 @@ fn format_as(room: &mut [u8], edition: u32, p: u64, c: u64, m: u64, n: u64, r: u
 }
 
 // Formats the lent room, and makes it the file that argument 1 names.
-fn format_room(room: &mut [u8], edition: u32, p: u64, c: u64, m: u64, n: u64, r: u64) -> Outcome {
+fn format_room(
+    rt: HostRuntime,
+    room: &mut [u8],
+    edition: u32,
+    p: u64,
+    c: u64,
+    m: u64,
+    n: u64,
+    r: u64,
+) -> Outcome {
     let f = format_as(room, edition, p, c, m, n, r);
     match f {
         Formatted::Done => {
-            if make_file(1, room) {
+            if make_file(rt, 1, room) {
                 return Outcome::Answered(Word::Formatted);
             }
             Outcome::Unreadable
@@ -60,10 +69,18 @@ pub(crate) fn image_room() -> [u8; MAX_IMAGE_BYTES]
     [0u8; MAX_IMAGE_BYTES]
 }
 
-pub(crate) fn format_file(edition: u32, p: u64, c: u64, m: u64, n: u64, r: u64) -> Outcome
+pub(crate) fn format_file(
+    rt: HostRuntime,
+    edition: u32,
+    p: u64,
+    c: u64,
+    m: u64,
+    n: u64,
+    r: u64,
+) -> Outcome
     requires { (first_edition ≤ edition) × (edition ≤ last_edition) }
 {
     let length = image_length(edition, p, c, m);
     let mut room = image_room();
-    format_room(&mut room[..length], edition, p, c, m, n, r)
+    format_room(rt, &mut room[..length], edition, p, c, m, n, r)
 }

@@ -1,6 +1,6 @@
 // Makes a fresh volume in a new file: `fresh FILE P C M N`.
 #![tactic(auto)]
 
-fn main() {
-    files::commands::fresh();
+fn main(rt: HostRuntime) {
+    files::commands::fresh(rt);
 }

@@ -7,11 +7,15 @@ use steps::Request;
 
 pub mod arguments;
 pub mod making;
+pub mod opening;
 pub mod reading;
 pub mod saying;
 
 // Longer than any argument that Linux hands a program, so that a number may have as many digits as it likes.
 pub const ARGUMENT_ROOM: usize = 131072;
+
+// Longer than any name of a file that Linux takes.
+pub const NAME_ROOM: usize = 4096;
 
 // The arguments that are to be a request or an alarm level.
 #[derive(Clone, Copy)]
@@ -39,6 +43,14 @@ pub enum Status {
 pub struct Content {
     pub status: Status,
     pub length: usize,
+}
+
+impl Content {
+    // Nothing was read.
+    pub const NONE: Content = Content {
+        status: Status::Unreadable,
+        length: 0,
+    };
 }
 
 // How many bytes a file has. A pipe cannot tell.

@@ -1,73 +1,82 @@
 // Files that are made or changed. The contents of each are synced before the program says so; a new file's folder is not.
-use libc::SEEK_SET;
+use crate::NAME_ROOM;
+use crate::arguments::file_name;
+use crate::opening::{create, open_update};
+use crate::saying::fail;
+use std::fs::{File, remove_file};
+use std::io;
+use std::io::{Seek, SeekFrom, Write};
+use std::str::from_utf8;
 
 // Writes bytes to an open file from where it stands, and waits until they have reached its device.
-fn put(fd: i32, name: &[u8], bytes: &[u8]) -> bool {
-    if !io::write_all(fd, bytes) {
-        os::fail(name);
-        return false;
+fn write_through(file: &mut File, bytes: &[u8]) -> io::Result<()> {
+    file.write_all(bytes)?;
+    file.sync_all()
+}
+
+// The same, where the reason of a failure is told.
+fn put(rt: HostRuntime, file: &mut File, name: &[u8], bytes: &[u8]) -> bool {
+    match write_through(file, bytes) {
+        Ok(()) => true,
+        Err(e) => {
+            fail(rt, name, &e);
+            false
+        }
     }
-    if libc::fsync(fd) < 0 {
-        os::fail(name);
-        return false;
+}
+
+// Removes a file that was made and could not be written whole. Where that fails too, nothing more can be done.
+fn remove(rt: HostRuntime, name: &[u8]) {
+    if let Ok(path) = from_utf8(name) {
+        let _ = remove_file(&rt, path);
     }
-    true
 }
 
 // Makes a new file of some bytes. A file that has the name already is left as it is; one that could not be written whole is removed again.
-pub fn make_named(name: &[u8], bytes: &[u8]) -> bool {
-    let fd = os::create(name);
-    if fd < 0 {
-        os::fail(name);
+pub fn make_named(rt: HostRuntime, name: &[u8], bytes: &[u8]) -> bool {
+    let Some(mut file) = create(rt, name) else {
         return false;
-    }
-    let made = put(fd, name, bytes);
-    libc::close(fd);
+    };
+    let made = put(rt, &mut file, name, bytes);
     if !made {
-        os::unlink(name);
+        remove(rt, name);
     }
     made
 }
 
 // Makes the new file that argument i names.
-pub fn make_file(i: usize, bytes: &[u8]) -> bool {
-    let mut name = io::buffer();
-    let length = os::arg(i, &mut name);
-    if os::errno() != 0 {
-        os::fail(b"file name");
-        return false;
+pub fn make_file(rt: HostRuntime, i: usize, bytes: &[u8]) -> bool {
+    let mut name = [0u8; NAME_ROOM];
+    match file_name(rt, i, &mut name) {
+        Some(length) => make_named(rt, &name[..length], bytes),
+        None => false,
     }
-    make_named(&name[..length], bytes)
 }
 
 // Writes an open file anew from its start, as many bytes as it has.
-pub fn rewrite(fd: i32, name: &[u8], bytes: &[u8]) -> bool {
-    if libc::lseek(fd, 0, SEEK_SET) != 0 {
-        os::fail(name);
-        return false;
+pub fn rewrite(rt: HostRuntime, file: &mut File, name: &[u8], bytes: &[u8]) -> bool {
+    match file.seek(SeekFrom::Start(0)) {
+        Ok(_) => put(rt, file, name, bytes),
+        Err(e) => {
+            fail(rt, name, &e);
+            false
+        }
     }
-    put(fd, name, bytes)
 }
 
 // The same of the file of a name, which must be there.
-fn rewrite_named(name: &[u8], bytes: &[u8]) -> bool {
-    let fd = os::open_update(name);
-    if fd < 0 {
-        os::fail(name);
-        return false;
+fn rewrite_named(rt: HostRuntime, name: &[u8], bytes: &[u8]) -> bool {
+    match open_update(rt, name) {
+        Some(mut file) => rewrite(rt, &mut file, name, bytes),
+        None => false,
     }
-    let written = rewrite(fd, name, bytes);
-    libc::close(fd);
-    written
 }
 
 // The same of the file that argument i names.
-pub fn rewrite_file(i: usize, bytes: &[u8]) -> bool {
-    let mut name = io::buffer();
-    let length = os::arg(i, &mut name);
-    if os::errno() != 0 {
-        os::fail(b"file name");
-        return false;
+pub fn rewrite_file(rt: HostRuntime, i: usize, bytes: &[u8]) -> bool {
+    let mut name = [0u8; NAME_ROOM];
+    match file_name(rt, i, &mut name) {
+        Some(length) => rewrite_named(rt, &name[..length], bytes),
+        None => false,
     }
-    rewrite_named(&name[..length], bytes)
 }

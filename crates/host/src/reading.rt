@@ -1,94 +1,99 @@
 // Files that arguments name, read into lent room.
-ghost use Rattle.io.specs.Counts.{IsPrefixLen};
+ghost use Rattle.std.specs.Prelude.{◌≡◌, ◌≤◌, length, take};
 
-use crate::saying::complain;
-use crate::{Content, Length, Status};
-use libc::SEEK_END;
+use crate::arguments::file_name;
+use crate::opening::open_read;
+use crate::saying::{complain, fail};
+use crate::{Content, Length, NAME_ROOM, Status};
+use std::fs::File;
+use std::io::{Read, Seek, SeekFrom};
+
+// Reads until the room is full, the file ends or a read fails, and says how many bytes stand at the start of the room.
+fn read_full(file: &mut File, room: &mut [u8]) -> usize
+    ensures { result ≤ length room.new }
+{
+    let mut done: usize = 0;
+    while done < room.len() {
+        match file.read(&mut room[done..]) {
+            Ok(0) | Err(_) => break,
+            Ok(n) => done += n,
+        }
+    }
+    done
+}
 
 // How a file was read, by what a further read answers: its end, a byte more, or a failure. `full` is whether the room is full; where it is not and a byte
 // comes all the same, an earlier read had failed.
-fn status_of(fd: i32, name: &[u8], full: bool) -> Status {
+fn status_of(rt: HostRuntime, file: &mut File, name: &[u8], full: bool) -> Status {
     let mut byte = [0u8; 1];
-    let got = libc::read(fd, &mut byte);
-    if got < 0 {
-        os::fail(name);
-        return Status::Unreadable;
+    match file.read(&mut byte) {
+        Ok(0) => Status::Whole,
+        Ok(_) => {
+            if full {
+                return Status::Long;
+            }
+            complain(rt, name, b"a read was interrupted");
+            Status::Unreadable
+        }
+        Err(e) => {
+            fail(rt, name, &e);
+            Status::Unreadable
+        }
     }
-    if got == 0 {
-        return Status::Whole;
-    }
-    if full {
-        return Status::Long;
-    }
-    complain(name, b"a read was interrupted");
-    Status::Unreadable
 }
 
 // Reads an open file.
-pub fn read_open(fd: i32, name: &[u8], room: &mut [u8]) -> Content
-    ensures { IsPrefixLen result.length room.new }
+pub fn read_open(rt: HostRuntime, file: &mut File, name: &[u8], room: &mut [u8]) -> Content
+    ensures within { result.length ≤ length room.new }
+    ensures prefix { result.length ≡ length (take result.length room.new) }
 {
-    let length = io::read_full(fd, room);
-    let status = status_of(fd, name, length == room.len());
+    let length = read_full(file, room);
+    let status = status_of(rt, file, name, length == room.len());
     Content { status, length }
 }
 
 // Reads the file of a name.
-fn read_named(name: &[u8], room: &mut [u8]) -> Content
-    ensures { IsPrefixLen result.length room.new }
+fn read_named(rt: HostRuntime, name: &[u8], room: &mut [u8]) -> Content
+    ensures within { result.length ≤ length room.new }
+    ensures prefix { result.length ≡ length (take result.length room.new) }
 {
-    let fd = os::open_read(name);
-    if fd < 0 {
-        os::fail(name);
-        return Content {
-            status: Status::Unreadable,
-            length: 0,
-        };
+    match open_read(rt, name) {
+        Some(mut file) => read_open(rt, &mut file, name, room),
+        None => Content::NONE,
     }
-    let content = read_open(fd, name, room);
-    libc::close(fd);
-    content
 }
 
 // Reads the file that argument i names.
-pub fn read_file(i: usize, room: &mut [u8]) -> Content
-    ensures { IsPrefixLen result.length room.new }
+pub fn read_file(rt: HostRuntime, i: usize, room: &mut [u8]) -> Content
+    ensures within { result.length ≤ length room.new }
+    ensures prefix { result.length ≡ length (take result.length room.new) }
 {
-    let mut name = io::buffer();
-    let length = os::arg(i, &mut name);
-    if os::errno() != 0 {
-        os::fail(b"file name");
-        return Content {
-            status: Status::Unreadable,
-            length: 0,
-        };
+    let mut name = [0u8; NAME_ROOM];
+    match file_name(rt, i, &mut name) {
+        Some(length) => read_named(rt, &name[..length], room),
+        None => Content::NONE,
     }
-    read_named(&name[..length], room)
 }
 
 // How many bytes the file of a name has.
-fn named_length(name: &[u8]) -> Length {
-    let fd = os::open_read(name);
-    if fd < 0 {
-        os::fail(name);
+fn named_length(rt: HostRuntime, name: &[u8]) -> Length {
+    let Some(mut file) = open_read(rt, name) else {
         return Length::Unknown;
+    };
+    match file.seek(SeekFrom::End(0)) {
+        Ok(end) => Length::Bytes(end),
+        Err(_) => {
+            complain(rt, name, b"its length cannot be told");
+            Length::Unknown
+        }
     }
-    let end = libc::lseek(fd, 0, SEEK_END);
-    libc::close(fd);
-    if end < 0 {
-        complain(name, b"its length cannot be told");
-        return Length::Unknown;
-    }
-    Length::Bytes(end as u64)
 }
 
 // How many bytes the file has that argument i names.
-pub fn file_length(i: usize) -> Length {
-    let mut name = io::buffer();
-    let length = os::arg(i, &mut name);
-    if os::errno() != 0 {
-        os::fail(b"file name");
-        return Length::Unknown;
+pub fn file_length(rt: HostRuntime, i: usize) -> Length {
+    let mut name = [0u8; NAME_ROOM];
+    match file_name(rt, i, &mut name) {
+        Some(length) => named_length(rt, &name[..length]),
+        None => Length::Unknown,
     }
-    named_length(&name[..length])
 }

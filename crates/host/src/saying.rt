@@ -1,108 +1,130 @@
-// What is printed. The last line of a program stands in one function, `conclude`.
+// What is printed. The last line of a program stands in one function, `conclude`. What standard output or standard error does not take is lost: an answer
+// stands in the files too, and for a list that does not there is `number_line`.
 use crate::{Outcome, Word};
 use layout::{Refusal, refusals};
-use libc::{STDERR_FILENO, STDOUT_FILENO};
+use std::io;
 
-pub fn text(bytes: &[u8]) {
-    io::write_all(STDOUT_FILENO, bytes);
+pub fn text(rt: HostRuntime, bytes: &[u8]) {
+    let _ = rt.stdout().write_all(bytes);
 }
 
-pub fn number(n: u64) {
-    io::print_decimal(STDOUT_FILENO, n);
+pub fn number(rt: HostRuntime, n: u64) {
+    let _ = print!(rt; "{n}");
 }
 
 // A number on a line of its own, for a list that cannot be had again: where it could not be written, the reason is told.
-pub fn number_line(n: u64) -> bool {
-    if !io::print_decimal(STDOUT_FILENO, n) {
-        os::fail(b"standard output");
-        return false;
+pub fn number_line(rt: HostRuntime, n: u64) -> bool {
+    match println!(rt; "{n}") {
+        Ok(()) => true,
+        Err(e) => {
+            fail(rt, b"standard output", &e);
+            false
+        }
     }
-    if !io::write_all(STDOUT_FILENO, b"\n") {
-        os::fail(b"standard output");
-        return false;
-    }
-    true
 }
 
 // A label and its number.
-pub fn labelled(label: &[u8], n: u64) {
-    text(label);
-    number(n);
+pub fn labelled(rt: HostRuntime, label: &[u8], n: u64) {
+    text(rt, label);
+    number(rt, n);
 }
 
 // The same on standard error, which is for reasons.
-fn reason(bytes: &[u8]) {
-    io::write_all(STDERR_FILENO, bytes);
+fn reason(rt: HostRuntime, bytes: &[u8]) {
+    let _ = rt.stderr().write_all(bytes);
+}
+
+fn reason_number(rt: HostRuntime, n: u64) {
+    let _ = eprint!(rt; "{n}");
 }
 
 // A reason about what an argument or a file is.
-pub fn complain(what: &[u8], about: &[u8]) {
-    reason(what);
-    reason(b": ");
-    reason(about);
-    reason(b"\n");
+pub fn complain(rt: HostRuntime, what: &[u8], about: &[u8]) {
+    reason(rt, what);
+    reason(rt, b": ");
+    reason(rt, about);
+    reason(rt, b"\n");
+}
+
+// The system's own words of what an error says: std adds the error's number in parentheses.
+fn own_words(said: &str) -> &str {
+    match said.split_once(" (os error ") {
+        Some((words, _)) => words,
+        None => said,
+    }
+}
+
+// The reason why the system did not do something. Where there is no memory for it, its number is said too.
+pub fn fail(rt: HostRuntime, what: &[u8], why: &io::Error) {
+    match why.to_string(rt.alloc()) {
+        Ok(said) => complain(rt, what, own_words(said.as_str()).as_bytes()),
+        Err(_) => {
+            reason(rt, what);
+            let _ = eprintln!(rt; ": {why}");
+        }
+    }
 }
 
 // A refusal's place, in words.
-fn place(words: &[u8], at: u32) {
-    reason(words);
-    io::print_decimal(STDERR_FILENO, at as u64);
+fn place(rt: HostRuntime, words: &[u8], at: u32) {
+    reason(rt, words);
+    reason_number(rt, at as u64);
 }
 
 // A refusal's row by its name in document 01's table, and its place.
-fn row(r: Refusal) {
+fn row(rt: HostRuntime, r: Refusal) {
     match r {
-        Refusal::Short => reason(b" SHORT"),
-        Refusal::Foreign => reason(b" FOREIGN"),
-        Refusal::Geometry => reason(b" GEOMETRY"),
-        Refusal::BadLink(chunk) => place(b" BAD LINK, chunk ", chunk),
-        Refusal::BadMap(chunk) => place(b" BAD MAP, chunk ", chunk),
+        Refusal::Short => reason(rt, b" SHORT"),
+        Refusal::Foreign => reason(rt, b" FOREIGN"),
+        Refusal::Geometry => reason(rt, b" GEOMETRY"),
+        Refusal::BadLink(chunk) => place(rt, b" BAD LINK, chunk ", chunk),
+        Refusal::BadMap(chunk) => place(rt, b" BAD MAP, chunk ", chunk),
         Refusal::Shared(first, second) => {
-            place(b" SHARED, chunks ", first);
-            place(b" and ", second);
+            place(rt, b" SHARED, chunks ", first);
+            place(rt, b" and ", second);
         }
-        Refusal::Range => reason(b" RANGE"),
-        Refusal::Size => reason(b" SIZE"),
-        Refusal::NoRoom(free) => place(b" NO ROOM, free units ", free),
-        Refusal::Small(needed) => place(b" SMALL, bytes needed ", needed),
-        Refusal::BadPlan(rule) => place(b" BAD PLAN, rule ", rule),
-        Refusal::BadAlarm => reason(b" BAD ALARM"),
+        Refusal::Range => reason(rt, b" RANGE"),
+        Refusal::Size => reason(rt, b" SIZE"),
+        Refusal::NoRoom(free) => place(rt, b" NO ROOM, free units ", free),
+        Refusal::Small(needed) => place(rt, b" SMALL, bytes needed ", needed),
+        Refusal::BadPlan(rule) => place(rt, b" BAD PLAN, rule ", rule),
+        Refusal::BadAlarm => reason(rt, b" BAD ALARM"),
     }
 }
 
 // A refusal: its number on standard output, its name and place on standard error.
-fn refused(r: Refusal) {
+fn refused(rt: HostRuntime, r: Refusal) {
     let n = refusals::number(r) as u64;
-    reason(b"refused: ");
-    io::print_decimal(STDERR_FILENO, n);
-    row(r);
-    reason(b"\n");
-    text(b"s REFUSED ");
-    number(n);
-    text(b"\n");
+    reason(rt, b"refused: ");
+    reason_number(rt, n);
+    row(rt, r);
+    reason(rt, b"\n");
+    text(rt, b"s REFUSED ");
+    number(rt, n);
+    text(rt, b"\n");
 }
 
-fn answered(word: Word) {
+fn answered(rt: HostRuntime, word: Word) {
     match word {
-        Word::Sound => text(b"s SOUND\n"),
-        Word::Formatted => text(b"s FORMATTED\n"),
-        Word::Planned => text(b"s PLANNED\n"),
-        Word::Accepted => text(b"s ACCEPTED\n"),
-        Word::Carried => text(b"s CARRIED\n"),
-        Word::Reported => text(b"s REPORTED\n"),
-        Word::Sounds => text(b"s SOUNDS\n"),
-        Word::Silent => text(b"s SILENT\n"),
-        Word::Sized => text(b"s SIZED\n"),
-        Word::Converted => text(b"s CONVERTED\n"),
+        Word::Sound => text(rt, b"s SOUND\n"),
+        Word::Formatted => text(rt, b"s FORMATTED\n"),
+        Word::Planned => text(rt, b"s PLANNED\n"),
+        Word::Accepted => text(rt, b"s ACCEPTED\n"),
+        Word::Carried => text(rt, b"s CARRIED\n"),
+        Word::Reported => text(rt, b"s REPORTED\n"),
+        Word::Sounds => text(rt, b"s SOUNDS\n"),
+        Word::Silent => text(rt, b"s SILENT\n"),
+        Word::Sized => text(rt, b"s SIZED\n"),
+        Word::Converted => text(rt, b"s CONVERTED\n"),
     }
 }
 
 // The last line of a program, if it has one.
-pub fn conclude(outcome: Outcome) {
+pub fn conclude(rt: HostRuntime, outcome: Outcome) {
     match outcome {
-        Outcome::Answered(word) => answered(word),
+        Outcome::Answered(word) => answered(rt, word),
         Outcome::Listed => {}
-        Outcome::Refused(r) => refused(r),
-        Outcome::Unreadable => text(b"s UNREADABLE\n"),
+        Outcome::Refused(r) => refused(rt, r),
+        Outcome::Unreadable => text(rt, b"s UNREADABLE\n"),
     }
 }

@@ -1,6 +1,6 @@
 // Prints what an image file holds: `list FILE`.
 #![tactic(auto)]
 
-fn main() {
-    views::commands::list();
+fn main(rt: HostRuntime) {
+    views::commands::list(rt);
 }

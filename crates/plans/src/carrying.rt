@@ -5,11 +5,14 @@ ghost use Rattle.plans.specs.LongPlans.{asked_of};
 
 use crate::{PLAN_ROOM, READ_STEPS};
 use carry::carry;
+use host::arguments::file_name;
 use host::making::rewrite;
+use host::opening::open_update;
 use host::reading::{file_length, read_file, read_open};
-use host::{Length, Outcome, Status, Word};
+use host::{Length, NAME_ROOM, Outcome, Status, Word};
 use layout::{MAX_IMAGE_BYTES, Refusal};
 use rules::Checked;
+use std::fs::File;
 use steps::reading::next_of;
 use steps::{Decoded, Found, Request, STEP_BYTES, Step};
 
@@ -81,14 +84,23 @@ fn answer_for(
 }
 
 // Carries out steps on an image that is as its file is, and writes the file anew.
-fn carry_on(fd: i32, name: &[u8], image: &mut [u8], request: Request, plan: &[u8], n: u64) -> bool {
+fn carry_on(
+    rt: HostRuntime,
+    file: &mut File,
+    name: &[u8],
+    image: &mut [u8],
+    request: Request,
+    plan: &[u8],
+    n: u64,
+) -> bool {
     carry(image, request, plan, n);
-    rewrite(fd, name, image)
+    rewrite(rt, file, name, image)
 }
 
 // The same on a copy of the image.
 fn carry_copy(
-    fd: i32,
+    rt: HostRuntime,
+    file: &mut File,
     name: &[u8],
     image: [u8; MAX_IMAGE_BYTES],
     length: usize,
@@ -99,14 +111,15 @@ fn carry_copy(
     requires { length ≤ max_image_bytes }
 {
     let mut copy = image;
-    carry_on(fd, name, &mut copy[..length], request, plan, n)
+    carry_on(rt, file, name, &mut copy[..length], request, plan, n)
 }
 
 // Carries out the first n steps of an accepted plan on the file. The FENCE before LINK is kept on the file too: what stands before LINK is synced before
 // LINK is written, so that a power failure never leaves a link to a map that is not there. Each of the two is made from the image as it was found: once
 // LINK has landed, the plan is no plan for the image any more.
 fn carry_stages(
-    fd: i32,
+    rt: HostRuntime,
+    file: &mut File,
     name: &[u8],
     image: [u8; MAX_IMAGE_BYTES],
     length: usize,
@@ -117,18 +130,19 @@ fn carry_stages(
     requires { length ≤ max_image_bytes }
 {
     let early = before_link(plan, n);
-    if !carry_copy(fd, name, image, length, request, plan, early) {
+    if !carry_copy(rt, file, name, image, length, request, plan, early) {
         return false;
     }
     if early == n {
         return true;
     }
-    carry_copy(fd, name, image, length, request, plan, n)
+    carry_copy(rt, file, name, image, length, request, plan, n)
 }
 
 // Carries out steps on an open image file; a refused image is not written.
 fn carry_image(
-    fd: i32,
+    rt: HostRuntime,
+    file: &mut File,
     name: &[u8],
     image: [u8; MAX_IMAGE_BYTES],
     length: usize,
@@ -141,7 +155,7 @@ fn carry_image(
     let answer = answer_for(image, length, request, plan, n);
     match answer {
         Checked::Accepted => {
-            if carry_stages(fd, name, image, length, request, plan, n) {
+            if carry_stages(rt, file, name, image, length, request, plan, n) {
                 return Outcome::Answered(Word::Carried);
             }
             Outcome::Unreadable
@@ -150,58 +164,64 @@ fn carry_image(
     }
 }
 
-fn carry_open(fd: i32, name: &[u8], request: Request, plan: &[u8], n: u64) -> Outcome {
+fn carry_open(
+    rt: HostRuntime,
+    file: &mut File,
+    name: &[u8],
+    request: Request,
+    plan: &[u8],
+    n: u64,
+) -> Outcome {
     let mut image = [0u8; MAX_IMAGE_BYTES];
-    let content = read_open(fd, name, &mut image);
+    let content = read_open(rt, file, name, &mut image);
     let status = content.status;
     let length = content.length;
     match status {
-        Status::Whole => carry_image(fd, name, image, length, request, plan, n),
+        Status::Whole => carry_image(rt, file, name, image, length, request, plan, n),
         Status::Long => Outcome::Refused(Refusal::Geometry),
         Status::Unreadable => Outcome::Unreadable,
     }
 }
 
-fn carry_named(name: &[u8], request: Request, plan: &[u8], n: u64) -> Outcome {
-    let fd = os::open_update(name);
-    if fd < 0 {
-        os::fail(name);
-        return Outcome::Unreadable;
+fn carry_named(rt: HostRuntime, name: &[u8], request: Request, plan: &[u8], n: u64) -> Outcome {
+    match open_update(rt, name) {
+        Some(mut file) => carry_open(rt, &mut file, name, request, plan, n),
+        None => Outcome::Unreadable,
     }
-    let outcome = carry_open(fd, name, request, plan, n);
-    libc::close(fd);
-    outcome
 }
 
 // Carries out steps on the image that argument 1 names.
-fn carry_plan(request: Request, plan: &[u8], n: u64) -> Outcome {
-    let mut name = io::buffer();
-    let length = os::arg(1, &mut name);
-    if os::errno() != 0 {
-        os::fail(b"file name");
-        return Outcome::Unreadable;
+fn carry_plan(rt: HostRuntime, request: Request, plan: &[u8], n: u64) -> Outcome {
+    let mut name = [0u8; NAME_ROOM];
+    match file_name(rt, 1, &mut name) {
+        Some(length) => carry_named(rt, &name[..length], request, plan, n),
+        None => Outcome::Unreadable,
     }
-    carry_named(&name[..length], request, plan, n)
 }
 
 // Carries out steps of a plan longer than the room for it, of which the first 65 steps were read.
-fn carry_long(request: Request, plan: &[u8], n: u64) -> Outcome {
-    let length = file_length(2);
+fn carry_long(rt: HostRuntime, request: Request, plan: &[u8], n: u64) -> Outcome {
+    let length = file_length(rt, 2);
     match length {
-        Length::Bytes(bytes) => carry_plan(request, plan, asked_of(n, bytes / STEP_BYTES as u64)),
+        Length::Bytes(bytes) => carry_plan(
+            rt,
+            request,
+            plan,
+            asked_of(n, bytes / STEP_BYTES as u64),
+        ),
         Length::Unknown => Outcome::Unreadable,
     }
 }
 
 // Carries out the first n steps of the plan that argument 2 names.
-pub(crate) fn carry_file(request: Request, n: u64) -> Outcome {
+pub(crate) fn carry_file(rt: HostRuntime, request: Request, n: u64) -> Outcome {
     let mut plan = [0u8; PLAN_ROOM];
-    let content = read_file(2, &mut plan);
+    let content = read_file(rt, 2, &mut plan);
     let status = content.status;
     let length = content.length;
     match status {
-        Status::Whole => carry_plan(request, &plan[..length], n),
-        Status::Long => carry_long(request, &plan[..length], n),
+        Status::Whole => carry_plan(rt, request, &plan[..length], n),
+        Status::Long => carry_long(rt, request, &plan[..length], n),
         Status::Unreadable => Outcome::Unreadable,
     }
 }

@@ -20,69 +20,69 @@ use steps::reading::step_at;
 use steps::{Decoded, Request, STEP_BYTES, Step, Value};
 
 // What a MAP or LINK step stores.
-fn stored(label: &[u8], value: Value) {
+fn stored(rt: HostRuntime, label: &[u8], value: Value) {
     match value {
-        Value::Number(n) => labelled(label, n as u64),
-        Value::Absent => text(b" absent"),
+        Value::Number(n) => labelled(rt, label, n as u64),
+        Value::Absent => text(rt, b" absent"),
     }
 }
 
 // The value of a MAP step: a unit, or a size in the words before the units.
-fn map_value(word: u32, head: u32, value: Value) {
+fn map_value(rt: HostRuntime, word: u32, head: u32, value: Value) {
     if word < head {
-        stored(b" size ", value);
+        stored(rt, b" size ", value);
     } else {
-        stored(b" unit ", value);
+        stored(rt, b" unit ", value);
     }
 }
 
-fn step_words(step: Step, head: u32) {
+fn step_words(rt: HostRuntime, step: Step, head: u32) {
     match step {
         Step::Data {
             unit,
             piece,
             write: _,
         } => {
-            labelled(b"data unit ", unit as u64);
-            labelled(b" piece ", piece as u64);
+            labelled(rt, b"data unit ", unit as u64);
+            labelled(rt, b" piece ", piece as u64);
         }
         Step::Map { map, word, value } => {
-            labelled(b"map ", map as u64);
-            labelled(b" word ", word as u64);
-            map_value(word, head, value);
+            labelled(rt, b"map ", map as u64);
+            labelled(rt, b" word ", word as u64);
+            map_value(rt, word, head, value);
         }
         Step::Link { chunk, value } => {
-            labelled(b"link chunk ", chunk as u64);
-            stored(b" map ", value);
+            labelled(rt, b"link chunk ", chunk as u64);
+            stored(rt, b" map ", value);
         }
-        Step::Fence => text(b"fence"),
+        Step::Fence => text(rt, b"fence"),
     }
 }
 
 // A step on a line.
-fn step_line(d: Decoded, head: u32) {
+fn step_line(rt: HostRuntime, d: Decoded, head: u32) {
     match d {
-        Decoded::Whole(step) => step_words(step, head),
-        Decoded::Malformed => text(b"malformed"),
+        Decoded::Whole(step) => step_words(rt, step, head),
+        Decoded::Malformed => text(rt, b"malformed"),
     }
-    text(b"\n");
+    text(rt, b"\n");
 }
 
 // The steps of a plan, one a line. `head` is how many words of a map stand before its units.
-fn step_lines(plan: &[u8], head: u32) {
+fn step_lines(rt: HostRuntime, plan: &[u8], head: u32) {
     let whole = plan.len() / STEP_BYTES;
     let mut i: usize = 0;
     while i < whole {
         let d = step_at(plan, i);
-        step_line(d, head);
+        step_line(rt, d, head);
         i += 1;
     }
 }
 
 // Makes the file that argument 2 names of a plan, and then prints it: what is printed is there.
-fn keep_plan(plan: &[u8], head: u32) -> Outcome {
-    if make_file(2, plan) {
-        step_lines(plan, head);
+fn keep_plan(rt: HostRuntime, plan: &[u8], head: u32) -> Outcome {
+    if make_file(rt, 2, plan) {
+        step_lines(rt, plan, head);
         return Outcome::Answered(Word::Planned);
     }
     Outcome::Unreadable
@@ -108,27 +108,27 @@ fn plan_for(image: &[u8], request: Request, room: &mut [u8]) -> Planned
     }
 }
 
-fn plan_image(image: &[u8], request: Request, room: &mut [u8]) -> Outcome {
+fn plan_image(rt: HostRuntime, image: &[u8], request: Request, room: &mut [u8]) -> Outcome {
     let p = plan_for(image, request, room);
     match p {
         Planned::Steps(n) => {
             let bytes = STEP_BYTES * n as usize;
             let head = head_of(image);
-            keep_plan(&room[..bytes], head)
+            keep_plan(rt, &room[..bytes], head)
         }
         Planned::Refused(r) => Outcome::Refused(r),
     }
 }
 
 // Plans a request on the image that argument 1 names.
-pub(crate) fn plan_file(request: Request) -> Outcome {
+pub(crate) fn plan_file(rt: HostRuntime, request: Request) -> Outcome {
     let mut image = [0u8; MAX_IMAGE_BYTES];
     let mut room = [0u8; OWN_PLAN_ROOM];
-    let content = read_file(1, &mut image);
+    let content = read_file(rt, 1, &mut image);
     let status = content.status;
     let length = content.length;
     match status {
-        Status::Whole => plan_image(&image[..length], request, &mut room),
+        Status::Whole => plan_image(rt, &image[..length], request, &mut room),
         Status::Long => Outcome::Refused(Refusal::Geometry),
         Status::Unreadable => Outcome::Unreadable,
     }
@@ -145,9 +145,9 @@ fn check_image(image: &[u8], request: Request, plan: &[u8]) -> Outcome
 }
 
 // Checks a plan on the image that argument 1 names.
-fn check_plan(request: Request, plan: &[u8]) -> Outcome {
+fn check_plan(rt: HostRuntime, request: Request, plan: &[u8]) -> Outcome {
     let mut image = [0u8; MAX_IMAGE_BYTES];
-    let content = read_file(1, &mut image);
+    let content = read_file(rt, 1, &mut image);
     let status = content.status;
     let length = content.length;
     match status {
@@ -158,14 +158,14 @@ fn check_plan(request: Request, plan: &[u8]) -> Outcome {
 }
 
 // Checks the plan that argument 2 names. Of a longer one its first 65 steps get the same answer.
-pub(crate) fn check_file(request: Request) -> Outcome {
+pub(crate) fn check_file(rt: HostRuntime, request: Request) -> Outcome {
     let mut plan = [0u8; PLAN_ROOM];
-    let content = read_file(2, &mut plan);
+    let content = read_file(rt, 2, &mut plan);
     let status = content.status;
     let length = content.length;
     match status {
-        Status::Whole => check_plan(request, &plan[..length]),
-        Status::Long => check_plan(request, &plan[..length]),
+        Status::Whole => check_plan(rt, request, &plan[..length]),
+        Status::Long => check_plan(rt, request, &plan[..length]),
         Status::Unreadable => Outcome::Unreadable,
     }
 }

@@ -1,6 +1,6 @@
 // Repairs an image file in place, and prints the chunks that were unlinked, one a line: `repair_image IMAGE`.
 #![tactic(auto)]
 
-fn main() {
-    files::commands::repair_image();
+fn main(rt: HostRuntime) {
+    files::commands::repair_image(rt);
 }

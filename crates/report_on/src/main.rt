@@ -1,6 +1,6 @@
 // Reports on the space of a volume: `report_on IMAGE`.
 #![tactic(auto)]
 
-fn main() {
-    views::commands::report_on();
+fn main(rt: HostRuntime) {
+    views::commands::report_on(rt);
 }

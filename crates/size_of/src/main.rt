@@ -1,6 +1,6 @@
 // Prints the stored size of a chunk: `size_of IMAGE CHUNK`.
 #![tactic(auto)]
 
-fn main() {
-    views::commands::size_of();
+fn main(rt: HostRuntime) {
+    views::commands::size_of(rt);
 }

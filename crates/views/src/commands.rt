@@ -6,59 +6,59 @@ use decimals::Number;
 use host::saying::conclude;
 use host::{Outcome, Threshold, arguments};
 
-fn list_one() -> Outcome {
-    if !arguments::are(2, b"list FILE") {
+fn list_one(rt: HostRuntime) -> Outcome {
+    if !arguments::are(rt, 2, b"list FILE") {
         return Outcome::Unreadable;
     }
-    list_file(1)
+    list_file(rt, 1)
 }
 
 // Lists the volume in a file.
-pub fn list() {
-    conclude(list_one());
+pub fn list(rt: HostRuntime) {
+    conclude(rt, list_one(rt));
 }
 
-fn report_one() -> Outcome {
-    if !arguments::are(2, b"report_on IMAGE") {
+fn report_one(rt: HostRuntime) -> Outcome {
+    if !arguments::are(rt, 2, b"report_on IMAGE") {
         return Outcome::Unreadable;
     }
-    report_file()
+    report_file(rt)
 }
 
 // Reports on the space of a volume.
-pub fn report_on() {
-    conclude(report_one());
+pub fn report_on(rt: HostRuntime) {
+    conclude(rt, report_one(rt));
 }
 
-fn alarm_one() -> Outcome {
+fn alarm_one(rt: HostRuntime) -> Outcome {
     let usage = b"alarm_at IMAGE units COUNT | fraction DECIMAL";
-    if !arguments::are(4, usage) {
+    if !arguments::are(rt, 4, usage) {
         return Outcome::Unreadable;
     }
-    let threshold = arguments::level(usage);
+    let threshold = arguments::level(rt, usage);
     match threshold {
-        Threshold::At(level) => alarm_file(level),
+        Threshold::At(level) => alarm_file(rt, level),
         Threshold::Malformed => Outcome::Unreadable,
     }
 }
 
 // Says whether the alarm of a volume sounds at a level.
-pub fn alarm_at() {
-    conclude(alarm_one());
+pub fn alarm_at(rt: HostRuntime) {
+    conclude(rt, alarm_one(rt));
 }
 
-fn size_one() -> Outcome {
-    if !arguments::are(3, b"size_of IMAGE CHUNK") {
+fn size_one(rt: HostRuntime) -> Outcome {
+    if !arguments::are(rt, 3, b"size_of IMAGE CHUNK") {
         return Outcome::Unreadable;
     }
-    let n = arguments::number(2);
+    let n = arguments::number(rt, 2);
     match n {
-        Number::Value(chunk) => size_file(chunk),
+        Number::Value(chunk) => size_file(rt, chunk),
         Number::Malformed => Outcome::Unreadable,
     }
 }
 
 // Prints the stored size of a chunk.
-pub fn size_of() {
-    conclude(size_one());
+pub fn size_of(rt: HostRuntime) {
+    conclude(rt, size_one(rt));
 }

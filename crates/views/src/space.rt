@@ -28,82 +28,82 @@ fn ten_thousandths(count: u32, all: u64) -> u64
 }
 
 // Ten-thousandths with their point.
-fn ratio(t: u64) {
-    number(t / 10000);
-    text(b".");
-    number(t / 1000 % 10);
-    number(t / 100 % 10);
-    number(t / 10 % 10);
-    number(t % 10);
+fn ratio(rt: HostRuntime, t: u64) {
+    number(rt, t / 10000);
+    text(rt, b".");
+    number(rt, t / 1000 % 10);
+    number(rt, t / 100 % 10);
+    number(rt, t / 10 % 10);
+    number(rt, t % 10);
 }
 
-fn count_line(label: &[u8], n: u32) {
-    labelled(label, n as u64);
-    text(b"\n");
+fn count_line(rt: HostRuntime, label: &[u8], n: u32) {
+    labelled(rt, label, n as u64);
+    text(rt, b"\n");
 }
 
-fn ratio_line(label: &[u8], count: u32, all: u64)
+fn ratio_line(rt: HostRuntime, label: &[u8], count: u32, all: u64)
     requires { all < 2 ^ 33 }
 {
-    text(label);
-    ratio(ten_thousandths(count, all));
-    text(b"\n");
+    text(rt, label);
+    ratio(rt, ten_thousandths(count, all));
+    text(rt, b"\n");
 }
 
 // The reserved units, which edition 1 does not have.
-fn reserved_line(g: Shape) {
+fn reserved_line(rt: HostRuntime, g: Shape) {
     if g.edition != FIRST_EDITION {
-        count_line(b"reserved ", g.r);
+        count_line(rt, b"reserved ", g.r);
     }
 }
 
-fn report_lines(g: Shape, r: Report) {
+fn report_lines(rt: HostRuntime, g: Shape, r: Report) {
     let n = g.n;
     let mapped = r.mapped;
     let held = r.held;
     let free = r.free;
     let saved = r.saved;
-    count_line(b"mapped ", mapped);
-    count_line(b"held ", held);
-    count_line(b"free ", free);
-    reserved_line(g);
-    count_line(b"saved ", saved);
-    ratio_line(b"held-ratio ", held, n as u64);
-    ratio_line(b"saved-ratio ", saved, saved as u64 + held as u64);
+    count_line(rt, b"mapped ", mapped);
+    count_line(rt, b"held ", held);
+    count_line(rt, b"free ", free);
+    reserved_line(rt, g);
+    count_line(rt, b"saved ", saved);
+    ratio_line(rt, b"held-ratio ", held, n as u64);
+    ratio_line(rt, b"saved-ratio ", saved, saved as u64 + held as u64);
 }
 
 // The report, with what the trailer says besides.
-fn report_shape(image: &[u8], r: Report) -> Outcome {
+fn report_shape(rt: HostRuntime, image: &[u8], r: Report) -> Outcome {
     let t = check_trailer(image);
     match t {
         Trailer::Fits(g) => {
-            report_lines(g, r);
+            report_lines(rt, g, r);
             Outcome::Answered(Word::Reported)
         }
         Trailer::Refused(x) => Outcome::Refused(x),
     }
 }
 
-fn report_image(image: &[u8]) -> Outcome {
+fn report_image(rt: HostRuntime, image: &[u8]) -> Outcome {
     let answer = report(image);
     let v = answer.verdict;
     match v {
         Verdict::Passed => {
             let r = answer.report;
-            report_shape(image, r)
+            report_shape(rt, image, r)
         }
         Verdict::Refused(r) => Outcome::Refused(r),
     }
 }
 
 // Reports on the image that argument 1 names.
-pub(crate) fn report_file() -> Outcome {
+pub(crate) fn report_file(rt: HostRuntime) -> Outcome {
     let mut image = [0u8; MAX_IMAGE_BYTES];
-    let content = read_file(1, &mut image);
+    let content = read_file(rt, 1, &mut image);
     let status = content.status;
     let length = content.length;
     match status {
-        Status::Whole => report_image(&image[..length]),
+        Status::Whole => report_image(rt, &image[..length]),
         Status::Long => Outcome::Refused(Refusal::Geometry),
         Status::Unreadable => Outcome::Unreadable,
     }
@@ -121,9 +121,9 @@ fn alarm_image(image: &[u8], level: Level) -> Outcome
 }
 
 // Whether the alarm of the image that argument 1 names sounds at a level.
-pub(crate) fn alarm_file(level: Level) -> Outcome {
+pub(crate) fn alarm_file(rt: HostRuntime, level: Level) -> Outcome {
     let mut image = [0u8; MAX_IMAGE_BYTES];
-    let content = read_file(1, &mut image);
+    let content = read_file(rt, 1, &mut image);
     let status = content.status;
     let length = content.length;
     match status {
