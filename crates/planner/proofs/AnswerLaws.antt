@@ -7,7 +7,6 @@ use mathlib.Core.List.{List, [], ◌∷◌, ◌++◌}
 use lib.ListN.{length, get_or, take, drop}
 use lib.Seq.{sets}
 use lib.Dec.{ltb}
-use borrow.Author.Rules.{zero≤}
 use borrow.Author.Tests.{lt-ltb, le-ltb}
 use Rattle.search.specs.Search.{below, first_or}
 use Rattle.search.proofs.Members.{first_member}
@@ -133,7 +132,7 @@ pub discard-good :
     → Leaves (if_room (length out) (cond kn.chunk_mapped 2 0)) (cond kn.chunk_mapped (Link i Absent ∷ Fence ∷ []) []) out answer after
     → Leaves (plan_good kn (Discard i) (length out)) (plan_of kn (Discard i)) out answer after
 unfolding plan_of
-discard-good kn i out answer after h = rw (le-ltb (length kn.free_units) 0 zero≤) (either kn.chunk_mapped h)
+discard-good kn i out answer after h = rw (le-ltb (length kn.free_units) 0 (omega arith)) (either kn.chunk_mapped h)
   where
     either : (b : Bool) → Leaves (if_room (length out) (cond b 2 0)) (cond b (Link i Absent ∷ Fence ∷ []) []) out answer after
         → Leaves (if_room (length out) (length (cond b (Link i Absent ∷ Fence ∷ []) []))) (cond b (Link i Absent ∷ Fence ∷ []) []) out answer after

@@ -36,7 +36,9 @@ returns-in-Sound c =
     let s = a.image.now in
     let k = into-known s _ _ _ c.load_into-o.ensures _ c.in-Sound.is in
     let is = rw c.chunk_of.ensures at c.is_mapped-mapped.ensures in
-    let same = judged-loaded s _ k a.request a.plan.now _ is in record {
-      value = (carry-passed s a.request a.plan.now a.n k.passed _ same _ _ c.carry_in.ensures).0;
-      image_after = (carry-passed s a.request a.plan.now a.n k.passed _ same _ _ c.carry_in.ensures).1;
+    let same = judged-loaded s _ k a.request a.plan.now _ is in
+    let e = c.carry_in.ensures in
+    let x = carry-passed s a.request a.plan.now a.n k.passed _ same _ _ (e.value, e.image_after) in record {
+      value = x.0;
+      image_after = x.1;
     }

@@ -1,7 +1,6 @@
 use Prim.Native.Nat.{◌-◌, ◌≤◌}
 use native.Mathlib.Omega.{arith}
 use mathlib.Core.Path.{ap, sym, subst, ◌∙◌}
-use borrow.Author.Rules.{zero≤}
 use Rattle.layout.specs.Shaped.{On}
 use Rattle.layout.proofs.Limits.{on-shaped}
 use Rattle.steps.specs.Steps.{decode_at}
@@ -12,7 +11,7 @@ use Rattle.carry.proofs.Turns.{step_in, carry-start, carry-turn, carry-end}
 use Rattle.carry.proofs.carry_steps.Goals as goal
 
 pub loop-i-init : goal.loop-i-init
-loop-i-init c = (zero≤, c.requires.on, carry-start c.args.image.now c.args.plan.now c.args.n)
+loop-i-init c = (omega arith, c.requires.on, carry-start c.args.image.now c.args.plan.now c.args.n)
 
 pub step_at-d-requires : goal.step_at-d-requires
 step_at-d-requires c = omega (arith, c.loop-i.invariant.0)

@@ -5,6 +5,6 @@ use Rattle.index.proofs.Index.carry.Goals as goal
 pub returns : goal.returns
 returns c =
     let x = rw c.held_shape-h.ensures at c.carry-checked.ensures in record {
-      checked_value = (x.0, λ i. index_of c.args.self.shape (x.1.1 i));
-      image_after = x.1.0;
+      checked_value = (x.value, λ i. index_of c.args.self.shape (x.sets_after i));
+      image_after = x.image_after;
     }

@@ -4,9 +4,9 @@ use Rattle.index.proofs.Index.open.Goals as goal
 
 pub returns-in-Refused : goal.returns-in-Refused
 returns-in-Refused c =
-    first-refused c.args.image.now _ opened.«open».ensures.0 _ c.in-Refused.is _ c.refused.ensures
+    first-refused c.args.image.now _ c.open-o.ensures.value _ c.in-Refused.is _ c.refused.ensures
 
 pub returns-in-Sound : goal.returns-in-Sound
 returns-in-Sound c =
     let image = c.args.image.now in
-    first-sound image _ opened.«open».ensures.0 _ c.in-Sound.is _ opened.«open».ensures.1
+    first-sound image _ c.open-o.ensures.value _ c.in-Sound.is _ c.open-o.ensures.sets_after

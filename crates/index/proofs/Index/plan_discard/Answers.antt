@@ -5,6 +5,6 @@ use Rattle.index.proofs.Index.plan_discard.Goals as goal
 pub returns : goal.returns
 returns c =
     let x = rw c.held_shape-h.ensures at c.plan_discard-planned.ensures in record {
-      planned_value = (x.0, refl);
-      out_after = x.1;
+      planned_value = (x.value, refl);
+      out_after = x.out_after;
     }

@@ -21,5 +21,9 @@ carry_in-requires c = record {
 pub returns : goal.returns
 returns c =
     let a = c.args in
-    carries-by a.g a.sets.now a.image.now a.request _ c.chunk_of.ensures _ c.is_mapped-mapped.ensures
-    a.plan.now a.n _ _ c.carry_in.ensures
+    let e = c.carry_in.ensures in
+    let x = carries-by a.g a.sets.now a.image.now a.request _ c.chunk_of.ensures _ c.is_mapped-mapped.ensures
+    a.plan.now a.n _ _ (e.value, e.image_after) in record {
+      value = x.0;
+      image_after = x.1;
+    }

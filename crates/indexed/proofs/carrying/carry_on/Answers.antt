@@ -27,12 +27,22 @@ follow-requires c =
 pub returns-in-Refused : goal.returns-in-Refused
 returns-in-Refused c =
     let a = c.args in
-    let kn = known_in (index_of a.g a.sets.now) a.image.now a.request in left_alone kn a.sets.now a.image.now a.request
-    a.plan.now a.n _ _ c.carry_by-answer.ensures _ c.in-Refused.is
+    let kn = known_in (index_of a.g a.sets.now) a.image.now a.request in
+    let e = c.carry_by-answer.ensures in
+    let x = left_alone kn a.sets.now a.image.now a.request a.plan.now a.n _ _ (e.value, e.image_after) _ c.in-Refused.is in record {
+      value = x.0;
+      image_after = x.1.0;
+      sets_after = x.1.1;
+    }
 
 pub returns-in-Accepted : goal.returns-in-Accepted
 returns-in-Accepted c =
     let a = c.args in
-    let kn = known_in (index_of a.g a.sets.now) a.image.now a.request in followed kn a.sets.now a.image.now a.request
-    a.plan.now a.n _ _ c.carry_by-answer.ensures c.in-Accepted.is _ _ c.chunk_of-chunk.ensures
-    c.entry-old.ensures _ c.follow.ensures
+    let kn = known_in (index_of a.g a.sets.now) a.image.now a.request in
+    let e = c.carry_by-answer.ensures in
+    let x = followed kn a.sets.now a.image.now a.request a.plan.now a.n _ _ (e.value, e.image_after) c.in-Accepted.is _ _ c.chunk_of-chunk.ensures
+    c.entry-old.ensures _ c.follow.ensures in record {
+      value = x.0;
+      image_after = x.1.0;
+      sets_after = x.1.1;
+    }

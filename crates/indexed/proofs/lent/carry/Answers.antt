@@ -14,11 +14,20 @@ carry_on-requires c =
 pub returns-in-Refused : goal.returns-in-Refused
 returns-in-Refused c =
     let a = c.args in
-    not_carried a.h a.sets.now a.image.now a.request _ c.chunk_of.ensures _ c.admit_chunk-o.ensures _
-    c.in-Refused.is a.plan.now a.n
+    let x = not_carried a.h a.sets.now a.image.now a.request _ c.chunk_of.ensures _ c.admit_chunk-o.ensures _
+    c.in-Refused.is a.plan.now a.n in record {
+      value = x.0;
+      image_after = x.1.0;
+      sets_after = x.1.1;
+    }
 
 pub returns-in-Sound : goal.returns-in-Sound
 returns-in-Sound c =
     let a = c.args in
-    now-carried a.h a.sets.now a.image.now a.request _ c.chunk_of.ensures _ c.admit_chunk-o.ensures _
-    c.in-Sound.is a.plan.now a.n _ _ _ c.carry_on.ensures
+    let e = c.carry_on.ensures in
+    let x = now-carried a.h a.sets.now a.image.now a.request _ c.chunk_of.ensures _ c.admit_chunk-o.ensures _
+    c.in-Sound.is a.plan.now a.n _ _ _ (e.value, (e.image_after, e.sets_after)) in record {
+      value = x.0;
+      image_after = x.1.0;
+      sets_after = x.1.1;
+    }

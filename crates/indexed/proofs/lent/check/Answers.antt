@@ -18,6 +18,13 @@ slice_bounds-judge-end c =
     c.in-Sound.is in
     sym (length-take-le 72 a.sets.now (omega (arith, k.room)))
 
+pub slice_bounds-judge-end-in-Sound : goal.slice_bounds-judge-end-in-Sound
+slice_bounds-judge-end-in-Sound c =
+    let a = c.args in
+    let k = inside a.h a.sets.now a.image.now a.request _ c.chunk_of-chunk.ensures _ c.admit_chunk-o.ensures _
+    c.in-Sound.is in
+    omega (arith, k.room)
+
 pub judge-requires : goal.judge-requires
 judge-requires c =
     let a = c.args in

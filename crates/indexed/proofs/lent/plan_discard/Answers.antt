@@ -12,11 +12,17 @@ is_mapped-mapped-requires c =
 pub returns-in-Refused : goal.returns-in-Refused
 returns-in-Refused c =
     let a = c.args in
-    not-planned a.h a.sets.now a.image.now (Discard a.chunk) _ refl _ c.admit_chunk-o.ensures _ c.in-Refused.is
-    a.out.now
+    let x = not-planned a.h a.sets.now a.image.now (Discard a.chunk) _ refl _ c.admit_chunk-o.ensures _ c.in-Refused.is
+    a.out.now in record {
+      value = x.0;
+      out_after = x.1;
+    }
 
 pub returns-in-Sound : goal.returns-in-Sound
 returns-in-Sound c =
     let a = c.args in
-    now-planned a.h a.sets.now a.image.now (Discard a.chunk) _ refl _ c.admit_chunk-o.ensures _ c.in-Sound.is _
-    c.is_mapped-mapped.ensures a.out.now _ _ (c.discard_on.ensures _ _)
+    let x = now-planned a.h a.sets.now a.image.now (Discard a.chunk) _ refl _ c.admit_chunk-o.ensures _ c.in-Sound.is _
+    c.is_mapped-mapped.ensures a.out.now _ _ (c.discard_on.ensures _ _) in record {
+      value = x.0;
+      out_after = x.1;
+    }

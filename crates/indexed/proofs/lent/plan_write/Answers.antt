@@ -13,6 +13,13 @@ slice_bounds-write_on-end c =
     c.in-Sound.is in
     sym (length-take-le 72 a.sets.now (omega (arith, k.room)))
 
+pub slice_bounds-write_on-end-in-Sound : goal.slice_bounds-write_on-end-in-Sound
+slice_bounds-write_on-end-in-Sound c =
+    let a = c.args in
+    let k = inside a.h a.sets.now a.image.now (Write a.chunk a.size) _ refl _ c.admit_chunk-o.ensures _
+    c.in-Sound.is in
+    omega (arith, k.room)
+
 pub write_on-requires : goal.write_on-requires
 write_on-requires c =
     let a = c.args in
@@ -25,11 +32,17 @@ write_on-requires c =
 pub returns-in-Refused : goal.returns-in-Refused
 returns-in-Refused c =
     let a = c.args in
-    not-planned a.h a.sets.now a.image.now (Write a.chunk a.size) _ refl _ c.admit_chunk-o.ensures _
-    c.in-Refused.is a.out.now
+    let x = not-planned a.h a.sets.now a.image.now (Write a.chunk a.size) _ refl _ c.admit_chunk-o.ensures _
+    c.in-Refused.is a.out.now in record {
+      value = x.0;
+      out_after = x.1;
+    }
 
 pub returns-in-Sound : goal.returns-in-Sound
 returns-in-Sound c =
     let a = c.args in
-    now-planned a.h a.sets.now a.image.now (Write a.chunk a.size) _ refl _ c.admit_chunk-o.ensures _
-    c.in-Sound.is _ refl a.out.now _ _ (c.write_on.ensures _)
+    let x = now-planned a.h a.sets.now a.image.now (Write a.chunk a.size) _ refl _ c.admit_chunk-o.ensures _
+    c.in-Sound.is _ refl a.out.now _ _ (c.write_on.ensures _) in record {
+      value = x.0;
+      out_after = x.1;
+    }

@@ -13,6 +13,11 @@ slice_bounds-report_on-end c =
     let a = c.args in
     sym (units-few a.sets.now (within a.h a.sets.now a.image.now _ c.admit-o.ensures _ c.in-Sound.is).room)
 
+pub slice_bounds-report_on-end-in-Sound : goal.slice_bounds-report_on-end-in-Sound
+slice_bounds-report_on-end-in-Sound c =
+    let a = c.args in
+    omega (arith, (within a.h a.sets.now a.image.now _ c.admit-o.ensures _ c.in-Sound.is).room)
+
 pub report_on-report-requires : goal.report_on-report-requires
 report_on-report-requires c =
     let a = c.args in record {

@@ -2,7 +2,6 @@ use Prim.Native.Nat.{◌-◌, ◌≤◌}
 use native.Mathlib.Omega.{arith}
 use mathlib.Core.Path.{refl, ap, sym, ◌∙◌}
 use lib.ListN.{length}
-use borrow.Author.Rules.{zero≤}
 use Rattle.steps.proofs.Encoding.{length-put_steps}
 use Rattle.planner.specs.Planner.{data_step, data_steps}
 use Rattle.planner.proofs.Storing.{steps-start, steps-turn, steps-end}
@@ -11,7 +10,7 @@ use Rattle.planner.proofs.plan.put_data.Goals as goal
 pub loop-j-init : goal.loop-j-init
 loop-j-init c =
     let a = c.args in
-    (zero≤, refl, steps-start (data_step a.units.now) a.out.now a.at (length a.units.now))
+    (omega arith, refl, steps-start (data_step a.units.now) a.out.now a.at (length a.units.now))
 
 pub loop-j-preserved : goal.loop-j-preserved
 loop-j-preserved c =

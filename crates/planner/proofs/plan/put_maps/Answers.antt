@@ -3,7 +3,6 @@ use native.Mathlib.Omega.{arith}
 use mathlib.Core.List.{[], ◌∷◌}
 use mathlib.Core.Path.{refl, ap, sym, ◌∙◌}
 use lib.ListN.{length}
-use borrow.Author.Rules.{zero≤}
 use Rattle.steps.specs.declared.Step.TheVariants.{Map}
 use Rattle.steps.specs.declared.Value.{Value}
 use Rattle.steps.specs.Steps.{put_steps}
@@ -15,7 +14,7 @@ use Rattle.planner.proofs.plan.put_maps.Goals as goal
 pub loop-j-init : goal.loop-j-init
 loop-j-init c =
     let a = c.args in
-    (zero≤, refl, steps-start (map_step a.heads a.size a.map a.units.now) a.out.now a.at a.words)
+    (omega arith, refl, steps-start (map_step a.heads a.size a.map a.units.now) a.out.now a.at a.words)
 
 pub loop-j-preserved : goal.loop-j-preserved
 loop-j-preserved c =

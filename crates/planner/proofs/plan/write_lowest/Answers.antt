@@ -10,7 +10,7 @@ returns-then-free-k c = λ m.
     let l = c.lowest-free in
     let a = c.args in
     few-units (known a.g (in_set a.units.now) (in_set a.maps.now) m) a.chunk a.size a.out.now a.chosen.now _ l.result
-    c.requires.chosen_len.0 l.ensures.0 l.ensures.1 (omega arith)
+    c.requires.chosen_len.0 l.ensures.value l.ensures.out_after (omega arith)
 
 pub returns-then-g-map : goal.returns-then-g-map
 returns-then-g-map c = λ m.
@@ -18,7 +18,7 @@ returns-then-g-map c = λ m.
     let l = c.lowest-free in
     let a = c.args in
     no-map (known a.g (in_set a.units.now) (in_set a.maps.now) m) a.chunk a.size a.out.now a.chosen.now _ l.result
-    c.requires.chosen_len.0 l.ensures.0 l.ensures.1 (omega arith) map.result map.ensures
+    c.requires.chosen_len.0 l.ensures.value l.ensures.out_after (omega arith) map.result map.ensures
     c.if-g-map.true
 
 pub returns : goal.returns
@@ -27,5 +27,5 @@ returns c = λ m.
     let l = c.lowest-free in
     let a = c.args in
     on-lowest (known a.g (in_set a.units.now) (in_set a.maps.now) m) a.chunk a.size a.out.now a.chosen.now _ l.result
-    c.requires.chosen_len.0 l.ensures.0 l.ensures.1 (omega arith) map.result map.ensures c.if-g-map.false
+    c.requires.chosen_len.0 l.ensures.value l.ensures.out_after (omega arith) map.result map.ensures c.if-g-map.false
     _ _ c.write_to.ensures

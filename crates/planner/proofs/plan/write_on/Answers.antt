@@ -6,7 +6,6 @@ use Rattle.rules.proofs.Good.{size_low}
 use Rattle.rules.specs.Rules.{known}
 use Rattle.steps.specs.declared.Request.TheVariants.{Write}
 use Rattle.bitset.specs.Bits.{in_set}
-use borrow.Author.Tests.{not-true, not-false}
 use lib.Seq.{length-take-le}
 use mathlib.Core.Path.{sym, ◌∙◌}
 use native.Mathlib.Omega.{arith}
@@ -20,13 +19,13 @@ returns-then-g-chunk c = λ m.
 pub returns-then-not-is_size : goal.returns-then-not-is_size
 returns-then-not-is_size c = λ m.
     let a = c.args in
-    let other = sym c.is_size.ensures ∙ not-true c.is_size.result c.if-not-is_size.true in
+    let other = sym c.is_size.ensures ∙ c.if-not-is_size.true in
     bad-size (known a.g (in_set a.units.now) (in_set a.maps.now) m) (Write a.chunk a.size) a.out.now c.if-g-chunk.false other
 
 pub units_for-k-requires : goal.units_for-k-requires
 units_for-k-requires c =
     let a = c.args in
-    let good = sym c.is_size.ensures ∙ not-false c.is_size.result c.if-not-is_size.false in
+    let good = sym c.is_size.ensures ∙ c.if-not-is_size.false in
     size_low a.g (Write a.chunk a.size) c.requires.limits.p-high good
 
 pub slice_bounds-write_lowest-end : goal.slice_bounds-write_lowest-end
@@ -45,6 +44,6 @@ pub returns : goal.returns
 returns c = λ m.
     let size = c.is_size in
     let a = c.args in
-    let good = sym size.ensures ∙ not-false size.result c.if-not-is_size.false in
+    let good = sym size.ensures ∙ c.if-not-is_size.false in
     good-request (known a.g (in_set a.units.now) (in_set a.maps.now) m) (Write a.chunk a.size) a.out.now c.if-g-chunk.false good _ _
     (c.write_lowest.ensures m)

@@ -1,6 +1,5 @@
 use Rattle.bitset.proofs.BitSets.{as-set}
 use Rattle.renewal.proofs.Renewing.{taking, walked_none, walked_start, walked_stop, walked_more, walked_end}
-use borrow.Author.Tests.{not-true, not-false}
 use Prim.Native.Nat.{◌-◌}
 use native.Mathlib.Omega.{arith}
 use Rattle.renewal.proofs.renew.take_out.Goals as goal
@@ -19,16 +18,13 @@ shape_of-units-then-not-is_unit c = c.loop-j.invariant.2.same
 pub returns-then-not-is_unit : goal.returns-then-not-is_unit
 returns-then-not-is_unit c =
     walked_stop _ _ taking _ _ c.requires _ _ _ _ c.loop-j.invariant.2 (omega arith) _ c.unit_word-u.ensures _
-    c.is_unit.ensures c.loop-j.invariant.1 (not-true _ c.if-not-is_unit.true)
+    c.is_unit.ensures c.loop-j.invariant.1 c.if-not-is_unit.true
 
 pub loop-j-preserved : goal.loop-j-preserved
 loop-j-preserved c =
-(
-      omega arith,
-      c.loop-j.invariant.1,
-      rw c.remove.ensures (walked_more _ _ taking _ _ c.requires _ _ _ _ c.loop-j.invariant.2
-          (omega arith) _ c.unit_word-u.ensures _ c.is_unit.ensures (not-false _ c.if-not-is_unit.false)),
-    )
+    let w = walked_more _ _ taking _ _ c.requires _ _ _ _ c.loop-j.invariant.2 (omega arith) _ c.unit_word-u.ensures _
+    c.is_unit.ensures c.if-not-is_unit.false in
+    (omega arith, c.loop-j.invariant.1, rw c.remove.ensures w)
 
 pub shape_of-units : goal.shape_of-units
 shape_of-units c = c.loop-j.invariant.2.same
