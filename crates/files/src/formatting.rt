@@ -13,9 +13,9 @@ use layout::{
 // The length of the image of a shape within the limits. Past them format refuses whatever is lent to it, so that a part of the room will do.
 pub(crate) fn image_length(edition: u32, p: u64, c: u64, m: u64) -> usize
     requires { (first_edition ≤ edition) × (edition ≤ last_edition) }
-    ensures upper_bound { result ≤ max_image_bytes }
-    ensures by_index { (n reserved : ℕ) → within_limits (record { edition = edition; p = p; c = c; m = m; n = n; result = reserved }) ≡ true
-        → result ≡ image_bytes (record { edition = edition; p = p; c = c; m = m; n = n; result = reserved }) }
+    ensures bound { result ≤ max_image_bytes }
+    ensures value { (n reserved : ℕ) → within_limits (record { edition = edition; p = p; c = c; m = m; n = n; r = reserved }) ≡ true
+        → result ≡ image_bytes (record { edition = edition; p = p; c = c; m = m; n = n; r = reserved }) }
 {
     if p > MAX_CHUNK_UNITS as u64 {
         return 0;

@@ -12,13 +12,10 @@ const LIST_ROOM: usize = NUMBER_BYTES * MAX_CHUNKS as usize;
 
 // The numbers of a list of chunks, one a line: false where one could not be printed.
 fn chunk_numbers(rt: HostRuntime, list: &[u8]) -> bool {
-    let n = list.len() / NUMBER_BYTES;
-    let mut k: usize = 0;
-    while k < n {
+    for k in 0..list.len() / NUMBER_BYTES {
         if !number_line(rt, words::get_u32(list, NUMBER_BYTES * k) as u64) {
             return false;
         }
-        k += 1;
     }
     true
 }

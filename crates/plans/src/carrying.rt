@@ -17,6 +17,7 @@ use steps::reading::next_of;
 use steps::{Decoded, Found, Request, STEP_BYTES, Step};
 
 // How many steps to ask of the first 65 of a longer plan, where n are asked of the plan: what is past all of its steps stays so.
+#[tactic(auto, unfolding(crate::specs::LongPlans::asked_of))]
 fn asked_of(n: u64, whole: u64) -> u64
     ensures { result ≡ asked_of n whole }
 {
@@ -59,14 +60,12 @@ fn links_at(plan: &[u8], i: u64) -> bool {
 
 // How many of a plan's first n steps stand before its LINK.
 fn before_link(plan: &[u8], n: u64) -> u64 {
-    let mut i: u64 = 0;
-    while i < n {
+    for i in 0..n {
         if links_at(plan, i) {
             return i;
         }
-        i += 1;
     }
-    i
+    n
 }
 
 // What carrying out answers, on a copy of the image.

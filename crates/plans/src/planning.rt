@@ -70,12 +70,9 @@ fn step_line(rt: HostRuntime, d: Decoded, head: u32) {
 
 // The steps of a plan, one a line. `head` is how many words of a map stand before its units.
 fn step_lines(rt: HostRuntime, plan: &[u8], head: u32) {
-    let whole = plan.len() / STEP_BYTES;
-    let mut i: usize = 0;
-    while i < whole {
+    for i in 0..plan.len() / STEP_BYTES {
         let d = step_at(plan, i);
         step_line(rt, d, head);
-        i += 1;
     }
 }
 

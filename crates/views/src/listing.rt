@@ -26,12 +26,9 @@ fn volume_line(rt: HostRuntime, g: Shape) {
 
 // The numbers that a chunk's held words say.
 fn units(rt: HostRuntime, words: &[u8]) {
-    let n = words.len() / WORD_BYTES;
-    let mut j: usize = 0;
-    while j < n {
+    for j in 0..words.len() / WORD_BYTES {
         text(rt, b" ");
         number(rt, words::get_u64(words, WORD_BYTES * j));
-        j += 1;
     }
 }
 
@@ -54,11 +51,8 @@ fn chunk_line(rt: HostRuntime, image: &[u8], g: Shape, i: usize)
 fn chunk_lines(rt: HostRuntime, image: &[u8], g: Shape)
     requires { Shaped image.now g }
 {
-    let c = g.c as usize;
-    let mut i: usize = 0;
-    while i < c {
+    for i in 0..g.c as usize {
         chunk_line(rt, image, g, i);
-        i += 1;
     }
 }
 
