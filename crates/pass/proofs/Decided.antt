@@ -17,7 +17,7 @@ use Rattle.steps.specs.declared.Request.TheVariants.{Write, Discard}
 use Rattle.steps.specs.Steps.{steps_of, chunk_of, size_of, need_of}
 use Rattle.steps.specs.Encodable.{Each}
 use Rattle.steps.proofs.Codec.{each_map}
-use Rattle.rules.specs.Rules.{collect, every, pieces, maps, words, linked, is_none, plan_map, word_in, once_each, map_fits, stored_words}
+use Rattle.rules.specs.Rules.{collect, every, pieces, maps, words, is_none, plan_map, word_in, once_each, map_fits, stored_words}
 use Rattle.rules.specs.Rules.{word_in_range, Known, links_are, rule1, rule2, rule3, rule4, rule5, broken_rule}
 use Rattle.rules.specs.Reading.{At}
 use Rattle.rules.proofs.StepLaws.{InRange, each-in-range}

@@ -1,9 +1,8 @@
 -- What is known where the free sets are those of an image: the rules then are those of the image.
 use Prim.Native.Nat.{ℕ}
 use mathlib.Core.Path.{◌≡◌, refl, ap, ◌∙◌}
-use mathlib.Core.Bool.{Bool, true, false, not, ◌&&◌}
+use mathlib.Core.Bool.{Bool, true, false, ◌&&◌}
 use mathlib.Core.List.{List}
-use Rattle.search.specs.Search.{below}
 use Rattle.layout.specs.declared.Shape.{Shape}
 use Rattle.image.specs.Soundness.{mapped}
 use Rattle.image.specs.Free.{free_units}

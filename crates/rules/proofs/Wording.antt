@@ -3,7 +3,7 @@ use Prim.Native.Nat.{ℕ, ◌+◌, ◌-◌, ◌*◌, ◌%◌, ◌<◌, ◌≤◌
 use mathlib.Core.Path.{◌≡◌, refl, sym, ap, ◌∙◌, subst}
 use mathlib.Core.Logic.{⊎_elim}
 use mathlib.Core.Bool.{Bool, true, false, ◌&&◌}
-use mathlib.Core.List.{List, [], map}
+use mathlib.Core.List.{List, []}
 use native.Mathlib.Omega.{arith}
 use lib.ListN.{length}
 use lib.Dec.{eqb, ltb, leb}
@@ -24,7 +24,7 @@ use Rattle.steps.specs.declared.Decoded.TheVariants.{Whole, Malformed}
 use Rattle.steps.specs.declared.Request.{Request}
 use Rattle.steps.specs.declared.Request.TheVariants.{Write, Discard}
 use Rattle.steps.specs.Steps.{step_bytes, whole_steps, decode_at, word_of}
-use Rattle.rules.specs.Rules.{max_steps, value_below, size_value, word_in_range, in_range, whole_in_range, rule1, piece_in, map_in, word_in, link_in, linked_in, pieces, units, maps, words, links, linked, unit_of, word_for, plan_map, once_each, every, data_fits, rule2, map_fits, maps_fit, rule3, links_are, rule4}
+use Rattle.rules.specs.Rules.{max_steps, value_below, size_value, word_in_range, in_range, whole_in_range, rule1, piece_in, map_in, word_in, link_in, linked_in, pieces, maps, words, links, linked, unit_of, word_for, plan_map, once_each, every, data_fits, rule2, map_fits, maps_fit, rule3, links_are, rule4}
 use Rattle.rules.specs.Reading.{At, ValueBelow, SizeValue, Bounded, Rule1, Pieces, Rule2, MapWords, Rule3, OneLink, Rule4}
 use Rattle.rules.proofs.Places.{at_one, every-at, every-intro, collect-in, collect-at, collect-once, collect-distinct, at_length, single-place, collect-none, collect-few}
 use Rattle.rules.proofs.StepLaws.{unit_of-none}

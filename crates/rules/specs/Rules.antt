@@ -1,7 +1,6 @@
 -- The checker's five rules, over what it knows of the image, and its answer: what is computed. Reading.antt has the rules to read.
-use Rattle.std.specs.Prelude.{ℕ, zero, suc, ◌*◌, ◌%◌, Bool, true, false, ◌&&◌, cond, List, [], ◌∷◌, ◌++◌, length, get_or, eqb, ltb, leb}
+use Rattle.std.specs.Prelude.{ℕ, zero, suc, ◌%◌, Bool, true, false, ◌&&◌, cond, List, [], ◌∷◌, ◌++◌, length, get_or, eqb, ltb, leb}
 use Rattle.layout.specs.declared.Shape.{Shape}
-use Rattle.layout.specs.declared.Refusal.{Refusal}
 use Rattle.layout.specs.declared.Refusal.TheVariants.{Range, Size, BadPlan}
 use Rattle.image.specs.Answers.{if_sound}
 use Rattle.search.specs.Search.{below, all, distinct, first_or, keep}

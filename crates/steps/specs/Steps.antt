@@ -1,5 +1,5 @@
 -- Requests, values and steps, and the bytes of a plan both ways: document 01's section 'Plans' up to the planner.
-use Rattle.std.specs.Prelude.{ℕ, ◌+◌, ◌-◌, ◌*◌, ◌/◌, Bool, true, cond, List, [], ◌∷◌, ◌++◌, map, length, eqb, ltb}
+use Rattle.std.specs.Prelude.{ℕ, ◌+◌, ◌*◌, ◌/◌, Bool, true, cond, List, [], ◌∷◌, ◌++◌, map, length, eqb, ltb}
 use Rattle.std.proofs.lemmas.List.Edits.{sets}
 use Rattle.search.specs.Search.{below}
 use Rattle.words.specs.Words.{u32_at, digits}

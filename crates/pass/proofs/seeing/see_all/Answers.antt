@@ -1,13 +1,11 @@
 use Rattle.pass.proofs.Ranged.{ragged, too_many, rule1-start}
 use Rattle.pass.proofs.Folding.{fold_start, fold-turn, fold_done}
 use Rattle.pass.specs.Passes.{see}
-use Rattle.rules.specs.Rules.{whole_in_range}
 use Rattle.search.proofs.Ranges.{all-from-more, all-from-stop, all-from-end}
 use Rattle.search.proofs.Bools.{contradict}
 use borrow.Author.Rules.{rules}
 use native.Mathlib.Omega.{arith}
 use mathlib.Core.Path.{refl, sym, ◌∙◌}
-use Prim.Native.Nat.{◌-◌}
 use Rattle.pass.proofs.seeing.see_all.Goals as goal
 
 pub returns-then-plan-ne0 : goal.returns-then-plan-ne0
