@@ -4,4 +4,8 @@ use mathlib.Core.Path.{ap, ◌∙◌}
 use Rattle.sumbilak.proofs.calls.sumbilak_repair.Goals as goal
 
 pub returns : goal.returns
-returns c = (c.repaired.ensures ∙ ap repaired_answer c.repair-x.ensures.value, c.repair-x.ensures)
+returns c = record {
+  value = c.repaired.ensures ∙ ap repaired_answer c.repair-x.ensures.value;
+  image_after = c.repair-x.ensures.image_after;
+  out_after = c.repair-x.ensures.out_after;
+}

@@ -6,4 +6,8 @@ use Rattle.sumbilak.proofs.holding.sumbilak_index_carry_discard.Goals as goal
 pub returns : goal.returns
 returns c =
     let x = c.carry-x.ensures in
-    (c.checked.ensures ∙ ap checked_answer x.0, x.1)
+    record {
+      value = c.checked.ensures ∙ ap checked_answer x.value;
+      image_after = x.image_after;
+      sets_after = x.sets_after;
+    }

@@ -5,6 +5,6 @@ use Rattle.sumbilak.proofs.holding.sumbilak_open.Goals as goal
 
 pub returns : goal.returns
 returns c = record {
-  value = c.opened.ensures ∙ ap opened_answer c.«open».ensures.0;
-  sets_after = c.«open».ensures.1;
+  value = c.opened.ensures ∙ ap opened_answer c.open-x.ensures.value;
+  sets_after = c.open-x.ensures.sets_after;
 }
