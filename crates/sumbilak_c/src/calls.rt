@@ -17,6 +17,8 @@ ghost use Rattle.answers.specs.Loading.{load_answer, load_out};
 ghost use Rattle.answers.specs.Numbers.{formatted_answer, shape_answer, split_answers, access_answers, held_answer, stored_answer, planned_answer, repaired_answer, converted_answer, checked_answer, reported_answer, alarm_answers};
 
 use answers::{Answer, ReportAnswer, ShapeAnswer};
+use report::Level;
+use steps::Request;
 use sumbilak::calls;
 
 #[unsafe(no_mangle)]

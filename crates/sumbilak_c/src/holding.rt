@@ -6,6 +6,8 @@ ghost use Rattle.answers.specs.Numbers.{opened_answer, planned_answer, checked_a
 
 use answers::{Answer, Opened, ReportAnswer};
 use indexed::HeldShape;
+use report::Level;
+use steps::Request;
 use sumbilak::holding;
 
 #[unsafe(no_mangle)]
