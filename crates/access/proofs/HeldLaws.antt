@@ -25,7 +25,7 @@ use Rattle.image.proofs.SoundLaws.{passed-tested}
 use Rattle.image.proofs.Leading.{leading_at}
 use Rattle.image.proofs.Chunks.{get_or-unit_words, mapped-named, named-below, units-mapped, length-units}
 use Rattle.access.specs.declared.Status.TheVariants.{Answered, Refused as Denied}
-use Rattle.access.specs.Parts.{held_status, held_words, part, held_part}
+use Rattle.access.specs.Parts.{held_status, held_words, held_part}
 use Rattle.access.specs.Holding.{Holds}
 
 -- a number read in a part of a list

@@ -6,9 +6,9 @@ use Rattle.access.proofs.parts.held_on.Goals as goal
 
 pub held_words-extent-requires : goal.held_words-extent-requires
 held_words-extent-requires c = record {
-      shaped = c.requires.shaped;
-      i_lt_c = (c.if-chunk-g.true, c.requires.chunk_value c.if-chunk-g.true);
-    }
+  shaped = c.requires.shaped;
+  i_lt_c = (c.if-chunk-g.true, c.requires.chunk_value c.if-chunk-g.true);
+}
 
 pub returns-then-chunk-g : goal.returns-then-chunk-g
 returns-then-chunk-g c =

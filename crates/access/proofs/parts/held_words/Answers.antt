@@ -7,17 +7,17 @@ use Rattle.layout.proofs.Limits.{map-words}
 use Rattle.access.proofs.parts.held_words.Goals as goal
 
 pub returns-then-w : goal.returns-then-w
-returns-then-w c =    let s = c.args.image.now in
+returns-then-w c = let s = c.args.image.now in
     (words-absent s c.args.i (not-mapped s c.args.i (sym c.link-w.ensures ∙ c.if-w.true)), omega arith, omega arith)
 
 pub held_count-units-requires : goal.held_count-units-requires
-held_count-units-requires c =    let l = c.link-w in record {
-      shaped = c.requires.shaped;
-      k_lt_m = map-named c.args.image.now c.args.g c.args.i l.result c.requires.shaped l.ensures c.if-w.false c.requires.i_lt_c.1;
-    }
+held_count-units-requires c = let l = c.link-w in record {
+  shaped = c.requires.shaped;
+  k_lt_m = map-named c.args.image.now c.args.g c.args.i l.result c.requires.shaped l.ensures c.if-w.false c.requires.i_lt_c.1;
+}
 
 pub map_word_place-start-requires : goal.map_word_place-start-requires
-map_word_place-start-requires c =    let l = c.link-w in
+map_word_place-start-requires c = let l = c.link-w in
     let n = map-words c.args.g in
     let m = map-named c.args.image.now c.args.g c.args.i l.result c.requires.shaped l.ensures c.if-w.false c.requires.i_lt_c.1 in record {
       limits = c.requires.shaped.limits;

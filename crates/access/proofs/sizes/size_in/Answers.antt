@@ -11,7 +11,7 @@ use native.Mathlib.Omega.{arith}
 use Rattle.access.proofs.sizes.size_in.Goals as goal
 
 pub returns-then-w : goal.returns-then-w
-returns-then-w c =    size-absent c.args.image.now c.args.g c.args.i _ c.requires.shaped c.link-w.ensures c.if-w.true
+returns-then-w c = size-absent c.args.image.now c.args.g c.args.i _ c.requires.shaped c.link-w.ensures c.if-w.true
 
 pub held_count-requires : goal.held_count-requires
 held_count-requires c =

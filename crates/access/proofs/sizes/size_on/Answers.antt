@@ -4,9 +4,9 @@ use Rattle.access.proofs.sizes.size_on.Goals as goal
 
 pub size_in-requires : goal.size_in-requires
 size_in-requires c = record {
-      shaped = c.requires.shaped;
-      i_lt_c = (c.if-chunk-g.true, c.requires.chunk_value c.if-chunk-g.true);
-    }
+  shaped = c.requires.shaped;
+  i_lt_c = (c.if-chunk-g.true, c.requires.chunk_value c.if-chunk-g.true);
+}
 
 pub returns-then-chunk-g : goal.returns-then-chunk-g
 returns-then-chunk-g c =

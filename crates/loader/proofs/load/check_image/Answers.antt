@@ -13,9 +13,9 @@ returns-then-passes c = let s = c.args.image.now in
 
 pub refusal-requires : goal.refusal-requires
 refusal-requires c = let e = sym c.check_trailer-t.ensures ∙ c.in-Fits.is in record {
-      shaped = on-shaped _ _ (fits_on _ _ e);
-      image_value = sym c.passes.ensures ∙ c.if-passes.false;
-    }
+  shaped = on-shaped _ _ (fits_on _ _ e);
+  image_value = sym c.passes.ensures ∙ c.if-passes.false;
+}
 
 pub returns-else-passes : goal.returns-else-passes
 returns-else-passes c = let s = c.args.image.now in

@@ -6,9 +6,9 @@ use Rattle.loader.proofs.load.load_into.Goals as goal
 
 pub survey-requires : goal.survey-requires
 survey-requires c = let e = sym c.check_trailer-t.ensures ∙ c.in-Fits.is in record {
-      shaped = on-shaped _ _ (fits_on _ _ e);
-      units_value = c.requires;
-    }
+  shaped = on-shaped _ _ (fits_on _ _ e);
+  units_value = c.requires;
+}
 
 pub returns-then-survey : goal.returns-then-survey
 returns-then-survey c = let s = c.args.image.now in
@@ -16,9 +16,9 @@ returns-then-survey c = let s = c.args.image.now in
 
 pub refusal-requires : goal.refusal-requires
 refusal-requires c = let e = sym c.check_trailer-t.ensures ∙ c.in-Fits.is in record {
-      shaped = on-shaped _ _ (fits_on _ _ e);
-      image_value = sym c.survey.ensures.right ∙ c.if-survey.false;
-    }
+  shaped = on-shaped _ _ (fits_on _ _ e);
+  image_value = sym c.survey.ensures.right ∙ c.if-survey.false;
+}
 
 pub returns-else-survey : goal.returns-else-survey
 returns-else-survey c = let s = c.args.image.now in

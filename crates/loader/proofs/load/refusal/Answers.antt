@@ -7,4 +7,4 @@ pub returns-in-Refused : goal.returns-in-Refused
 returns-in-Refused c = sym c.judge-v.ensures.right ∙ c.in-Refused.is
 
 pub returns-in-Passed : goal.returns-in-Passed
-returns-in-Passed c =    absurd (judged-some c.args.image.now _ c.judge-v.ensures.right c.requires.image_value c.in-Passed.is)
+returns-in-Passed c = absurd (judged-some c.args.image.now _ c.judge-v.ensures.right c.requires.image_value c.in-Passed.is)

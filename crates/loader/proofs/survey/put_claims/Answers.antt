@@ -33,14 +33,14 @@ returns-then-m-w c =
     }
 
 pub place-requires : goal.place-requires
-place-requires c =    let m = ap (λ (g : Shape). g.m) c.requires.shaped.same in
+place-requires c = let m = ap (λ (g : Shape). g.m) c.requires.shaped.same in
     (refl, omega (arith, ap length c.requires.maps_value ∙ length-bit_set _ (words_for c.args.g.m)))
 
 pub put_units-h-requires : goal.put_units-h-requires
 put_units-h-requires c = record {
-      shaped = c.requires.shaped;
-      k_lt_m = (omega arith, ap length c.requires.units_value ∙ length-bit_set _ (words_for c.args.g.n));
-    }
+  shaped = c.requires.shaped;
+  k_lt_m = (omega arith, ap length c.requires.units_value ∙ length-bit_set _ (words_for c.args.g.n));
+}
 
 pub returns-then-h-eq0 : goal.returns-then-h-eq0
 returns-then-h-eq0 c =
@@ -51,7 +51,7 @@ returns-then-h-eq0 c =
     }
 
 pub rest_absent-requires : goal.rest_absent-requires
-rest_absent-requires c =    let s = c.args.image.now in
+rest_absent-requires c = let s = c.args.image.now in
     let k = c.link-w.result in
     let l = length-leading (has_bit (shape_of s)) (unit_words_of s k) in record {
       shaped = c.requires.shaped;
@@ -68,7 +68,7 @@ returns-then-not-rest_absent c =
     }
 
 pub size_fits-requires : goal.size_fits-requires
-size_fits-requires c =    let s = c.args.image.now in
+size_fits-requires c = let s = c.args.image.now in
     let k = c.link-w.result in
     let l = length-leading (has_bit (shape_of s)) (unit_words_of s k) in
     let w = length-units_in s c.args.g k c.requires.shaped in record {

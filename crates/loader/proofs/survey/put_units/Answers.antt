@@ -2,7 +2,7 @@ use Rattle.image.proofs.Surveying.{puts_none, puts-end, puts_one, puts-no}
 use Rattle.image.proofs.MapWords.{length-units_in}
 use native.Mathlib.Omega.{arith}
 use mathlib.Core.Path.{refl}
-use Prim.Native.Nat.{◌+◌, ◌-◌}
+use Prim.Native.Nat.{◌+◌}
 use Rattle.loader.proofs.survey.put_units.Goals as goal
 
 pub loop-j-init : goal.loop-j-init
@@ -17,7 +17,7 @@ returns-then-not-insert c =
     }
 
 pub returns-then-not-insert-2 : goal.returns-then-not-insert-2
-returns-then-not-insert-2 c =    let one = puts_one c.args.image.now c.args.k _ _ c.loop-j.j c.loop-j.units c.loop-j.invariant.1 c.args.g c.requires.shaped refl (omega arith) _ c.unit_word.ensures
+returns-then-not-insert-2 c = let one = puts_one c.args.image.now c.args.k _ _ c.loop-j.j c.loop-j.units c.loop-j.invariant.1 c.args.g c.requires.shaped refl (omega arith) _ c.unit_word.ensures
     _ c.insert.ensures.value _ c.insert.ensures.set_after (c.loop-j.j + 1) refl c.if-not-insert.false in
     let t = puts-no c.args.image.now c.args.k _ _ (c.loop-j.j + 1) _ one c.args.g c.requires.shaped refl (omega arith) _ c.unit_word-in-loop-j.ensures
     _ c.insert-in-loop-j.ensures.value _ c.insert-in-loop-j.ensures.set_after c.if-not-insert-2.true in record {
@@ -26,7 +26,7 @@ returns-then-not-insert-2 c =    let one = puts_one c.args.image.now c.args.k _ 
     }
 
 pub loop-j-preserved : goal.loop-j-preserved
-loop-j-preserved c =    let one = puts_one c.args.image.now c.args.k _ _ c.loop-j.j c.loop-j.units c.loop-j.invariant.1 c.args.g c.requires.shaped refl (omega arith) _ c.unit_word.ensures
+loop-j-preserved c = let one = puts_one c.args.image.now c.args.k _ _ c.loop-j.j c.loop-j.units c.loop-j.invariant.1 c.args.g c.requires.shaped refl (omega arith) _ c.unit_word.ensures
     _ c.insert.ensures.value _ c.insert.ensures.set_after (c.loop-j.j + 1) refl c.if-not-insert.false in (
       omega arith,
       puts_one c.args.image.now c.args.k _ _ (c.loop-j.j + 1) _ one c.args.g c.requires.shaped refl (omega arith) _ c.unit_word-in-loop-j.ensures
