@@ -13,7 +13,7 @@ use Rattle.layout.specs.Format.{format_image}
 use Rattle.layout.proofs.Limits.{limits-hold}
 use Rattle.layout.proofs.Formatting.{good, done}
 use Rattle.image.specs.declared.Verdict.TheVariants.{Refused as VerdictRefused, Passed}
-use Rattle.image.specs.Verdicts.{verdict, first_verdict}
+use Rattle.image.specs.Verdicts.{first_verdict}
 use Rattle.convert.specs.declared.Converted.{Converted}
 use Rattle.convert.specs.declared.Converted.TheVariants.{Bytes, Refused}
 use Rattle.convert.specs.Convert.{second_of, new_bytes, converted, if_exact, convert_answer, unless_refused}

@@ -1,5 +1,5 @@
 -- Decimal fractions: `-`? DIGITS [`.` DIGITS], with at most 15 digits.
-use Rattle.std.specs.Prelude.{ℕ, suc, ◌+◌, ◌^◌, Bool, false, cond, ◌&&◌, List, [], ◌∷◌, ◌++◌, length, take, drop, pos, ◌==◌, nat_eq, nat_le, slice_index, Float}
+use Rattle.std.specs.Prelude.{ℕ, suc, ◌+◌, ◌^◌, cond, ◌&&◌, List, [], ◌∷◌, ◌++◌, length, take, drop, pos, ◌==◌, nat_eq, nat_le, slice_index, Float}
 use Rattle.std.specs.Float.{binary64}
 use Rattle.std.specs.Float.Ieee.{div, neg, of_int}
 use Rattle.search.specs.Search.{lowest}

@@ -1,13 +1,11 @@
-use Prim.Native.Nat.{◌<◌, ◌+◌, ◌-◌, ◌≤◌}
-use Rattle.layout.specs.Layout.{max_words, put_word}
-use Rattle.layout.specs.Shaped.{word_count}
+use Prim.Native.Nat.{◌+◌}
+use Rattle.layout.specs.Layout.{put_word}
 use Rattle.convert.proofs.Second.{Fits, second_fits, word-in}
 use Rattle.convert.proofs.Putting.{puts-start, puts-turn, puts-end, puts-map}
 use Rattle.convert.specs.Convert.{second_word}
 use Rattle.image.specs.Claims.{held_in}
 use Rattle.words.proofs.Laws.{length-store}
 use lib.ListN.{length}
-use mathlib.Core.List.{map}
 use mathlib.Core.Path.{refl, sym, ap, ◌∙◌}
 use native.Mathlib.Omega.{arith}
 use Rattle.convert.proofs.chunks.copy_map.Goals as goal
@@ -19,9 +17,9 @@ fits c = second_fits c.args.g c.args.second c.args.k c.requires.k_lt_m.1 c.requi
 
 pub held_count-count-requires : goal.held_count-count-requires
 held_count-count-requires c = record {
-      shaped = c.requires.shaped;
-      k_lt_m = c.requires.k_lt_m.0;
-    }
+  shaped = c.requires.shaped;
+  k_lt_m = c.requires.k_lt_m.0;
+}
 
 pub map_words-n-requires : goal.map_words-n-requires
 map_words-n-requires c = (fits (goal.at.map_words-n-requires c).Start).limits
@@ -31,9 +29,9 @@ overflow_cast-n c = omega arith
 
 pub map_word_place-at-requires : goal.map_word_place-at-requires
 map_word_place-at-requires c = let f = fits (goal.at.map_word_place-at-requires c).Start in record {
-      limits = f.limits;
-      k_lt_m = (f.low, f.some);
-    }
+  limits = f.limits;
+  k_lt_m = (f.low, f.some);
+}
 
 pub loop-j-init : goal.loop-j-init
 loop-j-init c = (omega arith, refl, puts-start _ _ _ _)
@@ -53,9 +51,9 @@ overflow_mul-at c =
 
 pub second_word-requires : goal.second_word-requires
 second_word-requires c = record {
-      shaped = c.requires.shaped;
-      k_lt_m = (c.requires.k_lt_m.0, c.held_count-count.ensures);
-    }
+  shaped = c.requires.shaped;
+  k_lt_m = (c.requires.k_lt_m.0, c.held_count-count.ensures);
+}
 
 pub put_u64-requires : goal.put_u64-requires
 put_u64-requires c =
@@ -70,7 +68,7 @@ pub loop-j-smaller : goal.loop-j-smaller
 loop-j-smaller c = omega arith
 
 pub loop-j-preserved : goal.loop-j-preserved
-loop-j-preserved c =    let l = c.loop-j in
+loop-j-preserved c = let l = c.loop-j in
     let at = c.map_word_place-at.result in
     let n = c.map_words-n.result in
     let put = c.put_u64.ensures ∙ ap (put_word l.out (at + l.j)) c.second_word.ensures in
@@ -81,6 +79,6 @@ pub shape_of-out : goal.shape_of-out
 shape_of-out c = c.loop-j.invariant.1
 
 pub returns : goal.returns
-returns c =    let l = c.loop-j in
+returns c = let l = c.loop-j in
     sym (puts-end _ l.out _ _ l.j (omega arith)) ∙ l.invariant.2
     ∙ puts-map c.args.second c.args.k _ _ _ _ c.map_word_place-at.ensures.0 c.map_words-n.ensures.0

@@ -12,14 +12,14 @@ pub image_bytes-n-requires : goal.image_bytes-n-requires
 image_bytes-n-requires c = second-within c.args.g _ c.requires.shaped.limits c.second_of-second.ensures
 
 pub returns-then-out-n : goal.returns-then-out-n
-returns-then-out-n c =    let needed = c.image_bytes-n.ensures.0 ∙ ap (λ (h : Shape). image_bytes h) c.second_of-second.ensures in
+returns-then-out-n c = let needed = c.image_bytes-n.ensures.0 ∙ ap (λ (h : Shape). image_bytes h) c.second_of-second.ensures in
     let e = exact-other (length c.args.out.now) _ (image_bytes (second_of c.args.g)) needed c.if-out-n.true in record {
       value = sym e;
       out_after = left_out c.args.image.now c.args.out.now _ _ (sym e);
     }
 
 pub copy_chunks-requires : goal.copy_chunks-requires
-copy_chunks-requires c =    let second = c.second_of-second.ensures in
+copy_chunks-requires c = let second = c.second_of-second.ensures in
     let long = c.if-out-n.false ∙ c.image_bytes-n.ensures.0 ∙ ap (λ (h : Shape). image_bytes h) second in
     let new = formatted c.args.g _ c.args.out.now _ c.requires.shaped.limits second long c.format2.ensures.image_after in record {
       shaped = c.requires.shaped;
@@ -28,7 +28,7 @@ copy_chunks-requires c =    let second = c.second_of-second.ensures in
     }
 
 pub returns : goal.returns
-returns c =    let needed = c.image_bytes-n.ensures.0 ∙ ap (λ (h : Shape). image_bytes h) c.second_of-second.ensures in
+returns c = let needed = c.image_bytes-n.ensures.0 ∙ ap (λ (h : Shape). image_bytes h) c.second_of-second.ensures in
     let e = exact_same (length c.args.out.now) _ (image_bytes (second_of c.args.g)) needed c.if-out-n.false in record {
       value = sym e;
       out_after = c.copy_chunks.ensures ∙ left_out c.args.image.now c.args.out.now _ _ (sym e);

@@ -1,7 +1,7 @@
 use Rattle.io.proofs.Counting.{prefix_len_of_le}
 use Rattle.decimals.specs.Fractions.{point_of}
 use Rattle.search.proofs.Ranges.{lowest_start, lowest-more, lowest-found, lowest-end}
-use Rattle.std.proofs.Common.{◌-◌, sym, refl, ◌∙◌, arith, rules, eq-eqb, ne_eqb}
+use Rattle.std.proofs.Common.{sym, refl, ◌∙◌, arith, rules, eq-eqb, ne_eqb}
 use Rattle.decimals.proofs.fractions.point_of.Goals as goal
 
 pub loop-i-init : goal.loop-i-init

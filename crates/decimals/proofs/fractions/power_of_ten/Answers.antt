@@ -1,4 +1,4 @@
-use Rattle.std.proofs.Common.{ℕ, ◌-◌, ◌^◌, refl, ap, ◌∙◌, pow-suc, add-one, arith, rules}
+use Rattle.std.proofs.Common.{ℕ, ◌^◌, refl, ap, ◌∙◌, pow-suc, add-one, arith, rules}
 use native.Mathlib.Nat.{pow-le-pow_right}
 use Rattle.decimals.proofs.fractions.power_of_ten.Goals as goal
 

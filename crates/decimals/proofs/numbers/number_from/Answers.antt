@@ -1,5 +1,5 @@
 use Rattle.decimals.proofs.NumberLaws.{digit-bounds, no-digits, some-digits, digits_more, digits-stop, digits-end}
-use Rattle.std.proofs.Common.{◌-◌, sym, ◌∙◌, arith, rules}
+use Rattle.std.proofs.Common.{sym, ◌∙◌, arith, rules}
 use Rattle.decimals.proofs.numbers.number_from.Goals as goal
 
 pub returns-then-text-eq0 : goal.returns-then-text-eq0

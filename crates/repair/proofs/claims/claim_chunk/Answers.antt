@@ -19,15 +19,15 @@ overflow_add-k c = omega (arith, c.requires.shaped.limits, named (goal.at.overfl
 
 pub held_count-count-requires : goal.held_count-count-requires
 held_count-count-requires c = record {
-      shaped = c.requires.shaped;
-      k_lt_m = named (goal.at.held_count-count-requires c).Else-w;
-    }
+  shaped = c.requires.shaped;
+  k_lt_m = named (goal.at.held_count-count-requires c).Else-w;
+}
 
 pub claim_units-requires : goal.claim_units-requires
 claim_units-requires c = record {
-      shaped = c.requires.shaped;
-      k_lt_m = (named (goal.at.claim_units-requires c).Else-w, c.held_count-count.ensures);
-    }
+  shaped = c.requires.shaped;
+  k_lt_m = (named (goal.at.claim_units-requires c).Else-w, c.held_count-count.ensures);
+}
 
 pub returns : goal.returns
-returns c =    λ xs h. counted-named c.args.image.now c.args.i _ c.link-w.ensures xs _ _ c.if-w.false (c.claim_units.ensures _ (c.claim.ensures xs h))
+returns c = λ xs h. counted-named c.args.image.now c.args.i _ c.link-w.ensures xs _ _ c.if-w.false (c.claim_units.ensures _ (c.claim.ensures xs h))

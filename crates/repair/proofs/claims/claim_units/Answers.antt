@@ -3,7 +3,6 @@ use Rattle.image.proofs.MapWords.{held_word}
 use Rattle.image.specs.Claims.{held_in}
 use native.Mathlib.Omega.{arith}
 use mathlib.Core.Path.{refl, ◌∙◌}
-use Prim.Native.Nat.{◌-◌}
 use borrow.Author.Rules.{rules}
 use Rattle.repair.proofs.claims.claim_units.Goals as goal
 
@@ -12,9 +11,9 @@ loop-j-init c = (search rules, refl, refl, λ xs h. counted_start (held_in c.arg
 
 pub unit_word-u-requires : goal.unit_word-u-requires
 unit_word-u-requires c = record {
-      shaped = c.requires.shaped;
-      k_lt_m = (c.requires.k_lt_m.0, (held_word c.args.image.now c.args.g c.args.k c.loop-j.j c.requires.shaped c.requires.k_lt_m.0 (omega arith)).0);
-    }
+  shaped = c.requires.shaped;
+  k_lt_m = (c.requires.k_lt_m.0, (held_word c.args.image.now c.args.g c.args.k c.loop-j.j c.requires.shaped c.requires.k_lt_m.0 (omega arith)).0);
+}
 
 pub loop-j-preserved : goal.loop-j-preserved
 loop-j-preserved c =
@@ -29,4 +28,4 @@ loop-j-preserved c =
     )
 
 pub returns : goal.returns
-returns c =    λ xs h. counted-all (held_in c.args.image.now c.args.k) xs c.loop-j.j _ _ (omega arith) (c.loop-j.invariant.3 xs h)
+returns c = λ xs h. counted-all (held_in c.args.image.now c.args.k) xs c.loop-j.j _ _ (omega arith) (c.loop-j.invariant.3 xs h)

@@ -23,20 +23,20 @@ overflow_add-k c = omega (arith, c.requires.shaped.limits, named (goal.at.overfl
 
 pub returns-then-contains : goal.returns-then-contains
 unfolding any
-returns-then-contains c =    rw (claims-named c.args.image.now c.args.i _ c.link-w.ensures c.if-w.false, sym c.contains.ensures ∙ c.if-contains.true)
+returns-then-contains c = rw (claims-named c.args.image.now c.args.i _ c.link-w.ensures c.if-w.false, sym c.contains.ensures ∙ c.if-contains.true)
 
 pub held_count-count-requires : goal.held_count-count-requires
 held_count-count-requires c = record {
-      shaped = c.requires.shaped;
-      k_lt_m = named (goal.at.held_count-count-requires c).Else-w;
-    }
+  shaped = c.requires.shaped;
+  k_lt_m = named (goal.at.held_count-count-requires c).Else-w;
+}
 
 pub has_unit_in-requires : goal.has_unit_in-requires
 has_unit_in-requires c = record {
-      shaped = c.requires.shaped;
-      k_lt_m = (named (goal.at.has_unit_in-requires c).Else-w, c.held_count-count.ensures);
-    }
+  shaped = c.requires.shaped;
+  k_lt_m = (named (goal.at.has_unit_in-requires c).Else-w, c.held_count-count.ensures);
+}
 
 pub returns : goal.returns
 unfolding any
-returns c =    rw (claims-named c.args.image.now c.args.i _ c.link-w.ensures c.if-w.false, sym c.contains.ensures ∙ c.if-contains.false) c.has_unit_in.ensures
+returns c = rw (claims-named c.args.image.now c.args.i _ c.link-w.ensures c.if-w.false, sym c.contains.ensures ∙ c.if-contains.false) c.has_unit_in.ensures

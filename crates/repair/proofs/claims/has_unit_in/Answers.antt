@@ -4,7 +4,6 @@ use Rattle.bitset.specs.Bits.{in_set}
 use Rattle.search.proofs.Members.{any-more, any-stop, any-end}
 use native.Mathlib.Omega.{arith}
 use mathlib.Core.Path.{refl, sym, ap, ◌∙◌}
-use Prim.Native.Nat.{◌-◌}
 use borrow.Author.Rules.{rules}
 use Rattle.repair.proofs.claims.has_unit_in.Goals as goal
 
@@ -13,9 +12,9 @@ loop-j-init c = (search rules, refl)
 
 pub unit_word-requires : goal.unit_word-requires
 unit_word-requires c = record {
-      shaped = c.requires.shaped;
-      k_lt_m = (c.requires.k_lt_m.0, (held_word c.args.image.now c.args.g c.args.k c.loop-j.j c.requires.shaped c.requires.k_lt_m.0 (omega arith)).0);
-    }
+  shaped = c.requires.shaped;
+  k_lt_m = (c.requires.k_lt_m.0, (held_word c.args.image.now c.args.g c.args.k c.loop-j.j c.requires.shaped c.requires.k_lt_m.0 (omega arith)).0);
+}
 
 pub returns-then-contains : goal.returns-then-contains
 returns-then-contains c =
@@ -36,4 +35,4 @@ loop-j-preserved c =
     (omega arith, l.invariant.1 ∙ any-more f us l.j (omega arith) other)
 
 pub returns : goal.returns
-returns c =    sym (c.loop-j.invariant.1 ∙ any-end (in_set c.args.set.now) (held_in c.args.image.now c.args.k) c.loop-j.j (omega arith))
+returns c = sym (c.loop-j.invariant.1 ∙ any-end (in_set c.args.set.now) (held_in c.args.image.now c.args.k) c.loop-j.j (omega arith))

@@ -6,7 +6,6 @@ use Rattle.layout.specs.declared.Shape.{Shape}
 use lib.ListN.{length}
 use native.Mathlib.Omega.{arith}
 use mathlib.Core.Path.{◌≡◌, sym, ap, ◌∙◌, subst}
-use Prim.Native.Nat.{◌-◌, ◌≤◌}
 use Rattle.repair.proofs.faults.add_all_sharing.Goals as goal
 
 pub loop-j-init : goal.loop-j-init
@@ -14,11 +13,11 @@ loop-j-init c = (omega arith, sharing-none c.args.image.now _ _ (ap (λ (g : Sha
 
 pub add_sharing-requires : goal.add_sharing-requires
 add_sharing-requires c = record {
-      shaped = c.requires.shaped;
-      i_lt_c = omega arith;
-      again_value = c.requires.again_value;
-      faulty_value = c.loop-j.invariant.1;
-    }
+  shaped = c.requires.shaped;
+  i_lt_c = omega arith;
+  again_value = c.requires.again_value;
+  faulty_value = c.loop-j.invariant.1;
+}
 
 pub loop-j-smaller : goal.loop-j-smaller
 loop-j-smaller c = omega arith
@@ -30,5 +29,5 @@ pub shape_of-faulty : goal.shape_of-faulty
 shape_of-faulty c = ap length c.loop-j.invariant.1 ∙ length-bit_set _ chunk_set_words ∙ sym (ap length c.requires.faulty_value ∙ length-bit_set _ chunk_set_words)
 
 pub returns : goal.returns
-returns c =    let e : c.loop-j.j ≡ c.args.g.c = omega arith in
+returns c = let e : c.loop-j.j ≡ c.args.g.c = omega arith in
     subst (λ n. c.loop-j.faulty ≡ bit_set (unlinks_below c.args.image.now n) chunk_set_words) e c.loop-j.invariant.1

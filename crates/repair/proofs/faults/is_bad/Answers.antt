@@ -5,9 +5,9 @@ use Rattle.repair.proofs.faults.is_bad.Goals as goal
 
 pub good_map-requires : goal.good_map-requires
 good_map-requires c = record {
-      shaped = c.requires.shaped;
-      i_lt_c = (c.requires.i_lt_c, sym c.good_link.ensures ∙ c.if-good_link.true);
-    }
+  shaped = c.requires.shaped;
+  i_lt_c = (c.requires.i_lt_c, sym c.good_link.ensures ∙ c.if-good_link.true);
+}
 
 pub returns-then-good_link : goal.returns-then-good_link
 returns-then-good_link c = bad-map _ _ _ _ c.good_link.ensures c.if-good_link.true c.good_map.ensures

@@ -3,7 +3,7 @@ use Rattle.words.proofs.Laws.{length-store}
 use lib.ListN.{length}
 use native.Mathlib.Omega.{arith}
 use mathlib.Core.Path.{refl, sym, ap, ◌∙◌}
-use Prim.Native.Nat.{◌*◌, ◌-◌, ◌≤◌}
+use Prim.Native.Nat.{◌*◌}
 use Rattle.repair.proofs.mend.unlink_members.Goals as goal
 
 pub loop-k-init : goal.loop-k-init
@@ -59,6 +59,6 @@ shape_of-out c = c.loop-k.invariant.2
 
 pub returns : goal.returns
 returns c = let l = c.loop-k in record {
-      image_after = sym (unlink-end _ l.k _ l.invariant.3 (omega arith) l.image) ∙ l.invariant.4;
-      out_after = sym (list-end _ l.k _ l.invariant.3 (omega arith) l.out (4 * l.k)) ∙ l.invariant.5;
-    }
+  image_after = sym (unlink-end _ l.k _ l.invariant.3 (omega arith) l.image) ∙ l.invariant.4;
+  out_after = sym (list-end _ l.k _ l.invariant.3 (omega arith) l.out (4 * l.k)) ∙ l.invariant.5;
+}
