@@ -19,7 +19,6 @@ small = edition1 4 4 5 20
 
 -- after the third write: chunk 2 has map 0 with units 0 and 1, chunk 0 map 2 with units 3 and 4; map 1, which no chunk names any more, still says unit 2
 abbrev pub third : List ℕ
-unfolding fresh digits
 third = put_word (put_word (put_word (put_word (put_word (put_word (put_word (fresh small) 2 0) 4 0) 5 1) 8 2) 0 2) 12 3) 13 4
 
 -- "chunks 0 and 3 both naming map 0 (a sound map)", which holds unit 7
