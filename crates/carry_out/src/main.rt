@@ -1,4 +1,5 @@
-// Carries out the first N steps of a plan on an image file: `carry_out IMAGE PLANFILE N write CHUNK SIZE | discard CHUNK`.
+// Carries out the first N steps of a plan on an image file:
+// `carry_out IMAGE PLANFILE N write CHUNK SIZE | discard CHUNK`.
 #![tactic(auto)]
 
 fn main(rt: HostRuntime) {

@@ -1,4 +1,5 @@
-// Says whether a plan keeps the rules: `check_plan IMAGE PLANFILE write CHUNK SIZE | discard CHUNK`.
+// Says whether a plan keeps the rules:
+// `check_plan IMAGE PLANFILE write CHUNK SIZE | discard CHUNK`.
 #![tactic(auto)]
 
 fn main(rt: HostRuntime) {

@@ -7,7 +7,8 @@ use host::saying::conclude;
 use host::{Outcome, arguments};
 use layout::{FIRST_EDITION, LAST_EDITION};
 
-// The numbers of a fresh volume from argument 2 on, one after the other. Edition 2 has one more, its reserved units.
+// The numbers of a fresh volume from argument 2 on, one after the other. Edition 2 has one more,
+// its reserved units.
 fn fresh_reserving(rt: HostRuntime, p: u64, c: u64, m: u64, n: u64) -> Outcome {
     let r = arguments::number(rt, 6);
     match r {

@@ -31,7 +31,8 @@ fn convert_into(rt: HostRuntime, image: &[u8], room: &mut [u8]) -> Outcome {
     }
 }
 
-// The length of the converted image. Where the trailer is refused the image is too, whatever is lent, so that a part of the room will do.
+// The length of the converted image. Where the trailer is refused the image is too, whatever is
+// lent, so that a part of the room will do.
 fn converted_length(image: &[u8]) -> usize
     ensures { result ≤ max_image_bytes }
 {

@@ -1,5 +1,6 @@
 // A fresh volume in a new file.
 ghost use Rattle.std.specs.Prelude.{◌≡◌, true, ℕ, ◌≤◌, length};
+ghost use Rattle.layout.specs.declared.Shape.{Shape};
 ghost use Rattle.layout.specs.Layout.{first_edition, last_edition, within_limits, image_bytes, max_image_bytes};
 
 use host::making::make_file;
@@ -10,12 +11,14 @@ use layout::{
     TRAILER_BYTES,
 };
 
-// The length of the image of a shape within the limits. Past them format refuses whatever is lent to it, so that a part of the room will do.
+// The length of the image of a shape within the limits. Past them format refuses whatever is lent
+// to it, so that a part of the room will do.
 pub(crate) fn image_length(edition: u32, p: u64, c: u64, m: u64) -> usize
     requires { (first_edition ≤ edition) × (edition ≤ last_edition) }
     ensures bound { result ≤ max_image_bytes }
-    ensures value { (n reserved : ℕ) → within_limits (record { edition = edition; p = p; c = c; m = m; n = n; r = reserved }) ≡ true
-        → result ≡ image_bytes (record { edition = edition; p = p; c = c; m = m; n = n; r = reserved }) }
+    ensures value { (n reserved : ℕ) →
+        let g : Shape = record { edition = edition; p = p; c = c; m = m; n = n; r = reserved } in
+        within_limits g ≡ true → result ≡ image_bytes g }
 {
     if p > MAX_CHUNK_UNITS as u64 {
         return 0;

@@ -20,11 +20,14 @@ fn chunk_numbers(rt: HostRuntime, list: &[u8]) -> bool {
     true
 }
 
-// Writes a repaired image back to the file that argument i names, and then prints the list of the chunks that were unlinked: what is printed is synced. An
-// empty list is a sound image, whose file is not even opened for writing. A list that could not be printed is lost, and no sound image.
+// Writes a repaired image back to the file that argument i names, and then prints the list of the
+// chunks that were unlinked: what is printed is synced. An empty list is a sound image, whose file
+// is not even opened for writing. A list that could not be printed is lost, and no sound image.
 //
-// A power failure before the file is synced is not covered: some of the entries may then be X on the disk and others not. Repaired again, what is found
-// becomes sound; but of two chunks that shared a unit one may have been unlinked already, and the other is then found alone on it and stays linked.
+// A power failure before the file is synced is not covered: some of the entries may then be X on
+// the disk and others not. Repaired again, what is found becomes sound; but of two chunks that
+// shared a unit one may have been unlinked already, and the other is then found alone on it and
+// stays linked.
 fn keep_repaired(rt: HostRuntime, i: usize, image: &[u8], list: &[u8]) -> Outcome {
     if list.len() == 0 {
         return Outcome::Listed;

@@ -23,7 +23,8 @@ pub fn count(rt: HostRuntime) -> usize {
     usize::MAX
 }
 
-// Whether there are `n` arguments, the program's own name among them. An argument too many is as wrong as a missing one: it was meant for something.
+// Whether there are `n` arguments, the program's own name among them. An argument too many is as
+// wrong as a missing one: it was meant for something.
 pub fn are(rt: HostRuntime, n: usize, usage: &[u8]) -> bool {
     if count(rt) == n {
         return true;
@@ -32,7 +33,8 @@ pub fn are(rt: HostRuntime, n: usize, usage: &[u8]) -> bool {
     false
 }
 
-// Puts argument i at the start of the room, and says how long it is. Where it is missing or longer than the room, the reason is told, after `what` it is to be.
+// Puts argument i at the start of the room, and says how long it is. Where it is missing or longer
+// than the room, the reason is told, after `what` it is to be.
 fn fetch(rt: HostRuntime, i: usize, what: &[u8], room: &mut [u8]) -> Option<usize>
     ensures { IfSome result (λ n. n ≤ length room.new) }
 {
@@ -133,7 +135,8 @@ fn discard_at(rt: HostRuntime, i: usize) -> Asked {
     }
 }
 
-// The request that the arguments from i on say, and no other argument: `write CHUNK SIZE` or `discard CHUNK`.
+// The request that the arguments from i on say, and no other argument: `write CHUNK SIZE` or
+// `discard CHUNK`.
 pub fn request(rt: HostRuntime, i: usize, usage: &[u8]) -> Asked
     requires { i ≤ 4 }
 {

@@ -11,7 +11,8 @@ pub mod opening;
 pub mod reading;
 pub mod saying;
 
-// Longer than any argument that Linux hands a program, so that a number may have as many digits as it likes.
+// Longer than any argument that Linux hands a program, so that a number may have as many digits as
+// it likes.
 pub const ARGUMENT_ROOM: usize = 131072;
 
 // Longer than any name of a file that Linux takes.
@@ -75,8 +76,8 @@ pub enum Word {
     Converted,
 }
 
-// How a program's work ended. `Listed` is an answer that was printed whole, and has no last line of its own. Where it is `Unreadable`, standard error has
-// been told why.
+// How a program's work ended. `Listed` is an answer that was printed whole, and has no last line of
+// its own. Where it is `Unreadable`, standard error has been told why.
 #[derive(Clone, Copy)]
 pub enum Outcome {
     Answered(Word),

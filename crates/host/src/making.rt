@@ -1,4 +1,5 @@
-// Files that are made or changed. The contents of each are synced before the program says so; a new file's folder is not.
+// Files that are made or changed. The contents of each are synced before the program says so; a new
+// file's folder is not.
 use crate::NAME_ROOM;
 use crate::arguments::file_name;
 use crate::opening::{create, open_update};
@@ -25,14 +26,16 @@ fn put(rt: HostRuntime, file: &mut File, name: &[u8], bytes: &[u8]) -> bool {
     }
 }
 
-// Removes a file that was made and could not be written whole. Where that fails too, nothing more can be done.
+// Removes a file that was made and could not be written whole. Where that fails too, nothing more
+// can be done.
 fn remove(rt: HostRuntime, name: &[u8]) {
     if let Ok(path) = from_utf8(name) {
         let _ = remove_file(&rt, path);
     }
 }
 
-// Makes a new file of some bytes. A file that has the name already is left as it is; one that could not be written whole is removed again.
+// Makes a new file of some bytes. A file that has the name already is left as it is; one that could
+// not be written whole is removed again.
 pub fn make_named(rt: HostRuntime, name: &[u8], bytes: &[u8]) -> bool {
     let Some(mut file) = create(rt, name) else {
         return false;

@@ -3,8 +3,9 @@ use crate::saying::{complain, fail};
 use std::fs::{File, OpenOptions};
 use std::str::from_utf8;
 
-// Opens the file of a name. Where it cannot be opened, the reason is told. A name that is not UTF-8 is one that std cannot pass on.
-pub fn open_named(rt: HostRuntime, how: &OpenOptions, name: &[u8]) -> Option<File> {
+// Opens the file of a name. Where it cannot be opened, the reason is told. A name that is not UTF-8
+// is one that std cannot pass on.
+fn open_named(rt: HostRuntime, how: &OpenOptions, name: &[u8]) -> Option<File> {
     let Ok(path) = from_utf8(name) else {
         complain(rt, name, b"not a name in UTF-8");
         return None;
@@ -19,7 +20,7 @@ pub fn open_named(rt: HostRuntime, how: &OpenOptions, name: &[u8]) -> Option<Fil
 }
 
 // To read it.
-pub fn open_read(rt: HostRuntime, name: &[u8]) -> Option<File> {
+pub(crate) fn open_read(rt: HostRuntime, name: &[u8]) -> Option<File> {
     let mut how = OpenOptions::new();
     how.read(true);
     open_named(rt, &how, name)
@@ -33,7 +34,7 @@ pub fn open_update(rt: HostRuntime, name: &[u8]) -> Option<File> {
 }
 
 // To write a file that is not there yet.
-pub fn create(rt: HostRuntime, name: &[u8]) -> Option<File> {
+pub(crate) fn create(rt: HostRuntime, name: &[u8]) -> Option<File> {
     let mut how = OpenOptions::new();
     how.write(true).create_new(true);
     open_named(rt, &how, name)

@@ -8,7 +8,8 @@ use crate::{Content, Length, NAME_ROOM, Status};
 use std::fs::File;
 use std::io::{Read, Seek, SeekFrom};
 
-// Reads until the room is full, the file ends or a read fails, and says how many bytes stand at the start of the room.
+// Reads until the room is full, the file ends or a read fails, and says how many bytes stand at the
+// start of the room.
 fn read_full(file: &mut File, room: &mut [u8]) -> usize
     ensures { result ≤ length room.new }
 {
@@ -22,8 +23,9 @@ fn read_full(file: &mut File, room: &mut [u8]) -> usize
     done
 }
 
-// How a file was read, by what a further read answers: its end, a byte more, or a failure. `full` is whether the room is full; where it is not and a byte
-// comes all the same, an earlier read had failed.
+// How a file was read, by what a further read answers: its end, a byte more, or a failure. `full`
+// is whether the room is full; where it is not and a byte comes all the same, an earlier read had
+// failed.
 fn status_of(rt: HostRuntime, file: &mut File, name: &[u8], full: bool) -> Status {
     let mut byte = [0u8; 1];
     match file.read(&mut byte) {

@@ -1,5 +1,5 @@
-// What is printed. The last line of a program stands in one function, `conclude`. What standard output or standard error does not take is lost: an answer
-// stands in the files too, and for a list that does not there is `number_line`.
+// What is printed. The last line of a program stands in one function, `conclude`. What standard
+// output or standard error does not take is lost, and the program goes on; `number_line` tells it.
 use crate::{Outcome, Word};
 use layout::{Refusal, refusals};
 use std::io;
@@ -12,7 +12,8 @@ pub fn number(rt: HostRuntime, n: u64) {
     let _ = print!(rt; "{n}");
 }
 
-// A number on a line of its own, for a list that cannot be had again: where it could not be written, the reason is told.
+// A number on a line of its own, for a list that cannot be had again: where it could not be
+// written, the reason is told.
 pub fn number_line(rt: HostRuntime, n: u64) -> bool {
     match println!(rt; "{n}") {
         Ok(()) => true,
@@ -54,7 +55,8 @@ fn own_words(said: &str) -> &str {
     }
 }
 
-// The reason why the system did not do something. Where there is no memory for it, its number is said too.
+// The reason why the system did not do something. Where there is no memory for it, its number is
+// said too.
 pub fn fail(rt: HostRuntime, what: &[u8], why: &io::Error) {
     match why.to_string(rt.alloc()) {
         Ok(said) => complain(rt, what, own_words(said.as_str()).as_bytes()),

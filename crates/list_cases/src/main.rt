@@ -1,4 +1,5 @@
-// Prints what each of several image files holds: `list_cases FILE..`. Its stored run is the listing's table of cases.
+// Prints what each of several image files holds: `list_cases FILE..`. Its stored run is the
+// listing's table of cases.
 #![tactic(auto)]
 
 fn main(rt: HostRuntime) {

@@ -1,4 +1,5 @@
-// Plans a request into a new file, and prints the plan: `plan IMAGE PLANFILE write CHUNK SIZE | discard CHUNK`.
+// Plans a request into a new file, and prints the plan:
+// `plan IMAGE PLANFILE write CHUNK SIZE | discard CHUNK`.
 #![tactic(auto)]
 
 fn main(rt: HostRuntime) {

@@ -6,6 +6,7 @@ use Rattle.steps.specs.Steps.{step_bytes}
 abbrev pub read_of : List ℕ → List ℕ
 read_of plan = take (step_bytes * 65) plan
 
--- how many steps to ask of those, where n are asked of the `whole` steps of the plan: as many, or more than there are
+-- how many steps to ask of those, where n are asked of the `whole` steps of the plan: as many, or
+-- more than there are
 unfoldable pub asked_of : ℕ → ℕ → ℕ
 asked_of n whole = cond (ltb whole n) n (cond (ltb n 65) n 65)

@@ -16,7 +16,8 @@ use std::fs::File;
 use steps::reading::next_of;
 use steps::{Decoded, Found, Request, STEP_BYTES, Step};
 
-// How many steps to ask of the first 65 of a longer plan, where n are asked of the plan: what is past all of its steps stays so.
+// How many steps to ask of the first 65 of a longer plan, where n are asked of the plan: what is
+// past all of its steps stays so.
 #[tactic(auto, unfolding(crate::specs::LongPlans::asked_of))]
 fn asked_of(n: u64, whole: u64) -> u64
     ensures { result ≡ asked_of n whole }
@@ -113,9 +114,10 @@ fn carry_copy(
     carry_on(rt, file, name, &mut copy[..length], request, plan, n)
 }
 
-// Carries out the first n steps of an accepted plan on the file. The FENCE before LINK is kept on the file too: what stands before LINK is synced before
-// LINK is written, so that a power failure never leaves a link to a map that is not there. Each of the two is made from the image as it was found: once
-// LINK has landed, the plan is no plan for the image any more.
+// Carries out the first n steps of an accepted plan on the file. The FENCE before LINK is kept on
+// the file too: what stands before LINK is synced before LINK is written, so that a power failure
+// never leaves a link to a map that is not there. Each of the two is made from the image as it was
+// found: once LINK has landed, the plan is no plan for the image any more.
 fn carry_stages(
     rt: HostRuntime,
     file: &mut File,

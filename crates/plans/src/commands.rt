@@ -1,4 +1,5 @@
-// The programs that plan a request, check a plan, and carry one out: what each does with its arguments, and its last line.
+// The programs that plan a request, check a plan, and carry one out: what each does with its
+// arguments, and its last line.
 use crate::carrying::carry_file;
 use crate::planning::{check_file, plan_file};
 use decimals::Number;

@@ -1,4 +1,5 @@
-// Repairs several image files in place, and prints what each then holds: `repair_cases FILE..`. Its stored run is the repair's table of cases.
+// Repairs several image files in place, and prints what each then holds: `repair_cases FILE..`. Its
+// stored run is the repair's table of cases.
 #![tactic(auto)]
 
 fn main(rt: HostRuntime) {

@@ -1,4 +1,5 @@
-// Several image files one after the other, each after a line with its name: the programs whose stored runs are tables of cases.
+// Several image files one after the other, each after a line with its name: the programs whose
+// stored runs are tables of cases.
 #![tactic(auto)]
 
 use files::repairing::repair_file;
@@ -16,7 +17,8 @@ fn name_line(rt: HostRuntime, i: usize) {
     text(rt, b"\n");
 }
 
-// The file that argument i names, after a line with its name: what its repair says, where it is to be repaired first, and what it holds.
+// The file that argument i names, after a line with its name: what its repair says, where it is to
+// be repaired first, and what it holds.
 fn show_case(rt: HostRuntime, i: usize, repair_first: bool) {
     name_line(rt, i);
     if repair_first {

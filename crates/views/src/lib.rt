@@ -1,4 +1,5 @@
-// The work of the programs that print what an image file holds. Each of them is one call of `commands`.
+// The work of the programs that print what an image file holds. Each of them is one call of
+// `commands`.
 #![tactic(auto)]
 
 pub mod commands;

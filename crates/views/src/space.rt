@@ -14,9 +14,11 @@ use report::alarms::alarm;
 use report::reports::report;
 use report::{Alarm, Level, Report};
 
-// A count's share of all, in ten-thousandths, to the nearest one, a half upwards. The report's own ratios are f64, and exact to 53 bits; to print one takes a
-// further product, which rounds again and falls below the half in one of forty halves. So the digits come from the exact counts, of which the ratios are the
-// quotients: held / N, and saved / (mapped chunks times P), which is saved and held units together. Of nothing the share is 0.
+// A count's share of all, in ten-thousandths, to the nearest one, a half upwards. The report's own
+// ratios are f64, and exact to 53 bits; to print one takes a further product, which rounds again
+// and falls below the half in one of forty halves. So the digits come from the exact counts, of
+// which the ratios are the quotients: held / N, and saved / (mapped chunks times P), which is saved
+// and held units together. Of nothing the share is 0.
 #[tactic(auto, unfolding(crate::specs::Ratios::ten_thousandths))]
 fn ten_thousandths(count: u32, all: u64) -> u64
     requires { all < 2 ^ 33 }

@@ -5,10 +5,12 @@ use Rattle.plans.proofs.planning.plan_image.Goals as goal
 
 pub slice_bounds-keep_plan-end : goal.slice_bounds-keep_plan-end
 slice_bounds-keep_plan-end c =
-    let f = (answered c.args.image.now c.args.request (length c.args.room.now) _ (sym c.in-Steps.ensures.value)).fits in
+    let a = c.args in
+    let f = (answered a.image.now a.request (length a.room.now) _ (sym c.in-Steps.ensures.value)).fits in
     omega arith
 
 pub slice_bounds-keep_plan-end-in-Steps : goal.slice_bounds-keep_plan-end-in-Steps
 slice_bounds-keep_plan-end-in-Steps c =
-    let f = (answered c.args.image.now c.args.request (length c.args.room.now) _ (sym c.in-Steps.ensures.value)).fits in
+    let a = c.args in
+    let f = (answered a.image.now a.request (length a.room.now) _ (sym c.in-Steps.ensures.value)).fits in
     sym (length-take-le _ _ (omega arith))
