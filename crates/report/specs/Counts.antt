@@ -1,4 +1,4 @@
--- The report's counts, of a sound image: "mapped chunks, held units, free units, saved units". What counts as saved is not document 01's "C-as-P
+-- The report's counts, of a sound image: "mapped chunks, held units, free units, saved units". What counts as saved is not document 01's "C·P
 -- less held" but its correction, document 02's request 1: "Saved units must be counted over mapped chunks only". It stands in raw_count and
 -- saved_count here and in ratio_if_mapped and saved_ratio (Reports.antt), and nowhere else.
 use Rattle.std.specs.Prelude.{ℕ, ◌-◌, ◌*◌, List, length}
