@@ -1,5 +1,5 @@
 -- Request 4's worked cases: the same volume in edition 2, 272 bytes, and what edition 1 answers to the request's questions.
-use Rattle.std.specs.Prelude.{ℕ, List, [], ◌∷◌, ◌++◌, replicate}
+use Rattle.std.specs.Prelude.{ℕ, List, [], ◌∷◌, replicate}
 use Rattle.search.specs.Search.{below, from}
 use Rattle.layout.specs.declared.Refusal.TheVariants.{BadMap, Shared, Size}
 use Rattle.layout.specs.Layout.{X, edition2}

@@ -7,7 +7,7 @@ use mathlib.Core.List.{List, [], ◌∷◌, ◌++◌}
 use lib.Dec.{eqb}
 use borrow.Author.Tests.{eqb-true, eqb-false, eq-eqb, ne_eqb}
 use Rattle.layout.specs.declared.Shape.{Shape}
-use Rattle.search.proofs.Bools.{contradict, either, and_intro, and-false-left, and-false-right, cond-true, cond-false}
+use Rattle.search.proofs.Bools.{either, and_intro, and-false-left, and-false-right, cond-true, cond-false}
 use Rattle.image.specs.Soundness.{units_of, Sound}
 use Rattle.steps.specs.Steps.{chunk_of}
 use Rattle.durable.specs.Events.{Volume, Event, Outcome, refused, finished, cut, after, run, holds, new_pieces, outcome, takes_effect, entry, entries, entered, ledger}

@@ -7,11 +7,11 @@ use lib.ListN.{length}
 use native.Mathlib.Omega.{arith}
 use mathlib.Core.Logic.{inr}
 use mathlib.Core.List.{List, [], map}
-use Rattle.search.specs.Search.{from, first_or}
+use Rattle.search.specs.Search.{from}
 use Rattle.image.specs.Soundness.{units_of, Sound}
-use Rattle.image.specs.Free.{free_units, free_maps}
+use Rattle.image.specs.Free.{free_units}
 use Rattle.layout.specs.declared.Shape.{Shape}
-use Rattle.layout.specs.Layout.{X, shape_of, fresh}
+use Rattle.layout.specs.Layout.{shape_of}
 use Rattle.layout.specs.Format.{format_image}
 use Rattle.layout.proofs.Formatting.{formatted}
 use Rattle.layout.proofs.Limits.{limits}
@@ -22,7 +22,7 @@ use Rattle.repair.specs.Repair.{repair_image}
 use Rattle.repair.proofs.Theorems.{repair-repairs}
 use Rattle.steps.specs.declared.Request.{Request}
 use Rattle.steps.specs.declared.Request.TheVariants.{Write, Discard}
-use Rattle.steps.specs.Steps.{whole_steps, steps_of, chunk_of, need_of, encode_all}
+use Rattle.steps.specs.Steps.{whole_steps, chunk_of, need_of, encode_all}
 use Rattle.steps.proofs.Codec.{whole-encoded}
 use Rattle.rules.specs.declared.Checked.TheVariants.{Accepted}
 use Rattle.rules.specs.Rules.{known_of, checked, plan_map}

@@ -14,7 +14,7 @@ returns-then-count-n c =
     }
 
 pub judge-answer-requires : goal.judge-answer-requires
-judge-answer-requires c =(on-limits c.requires.on, c.requires.units_bound)
+judge-answer-requires c = (on-limits c.requires.on, c.requires.units_bound)
 
 pub carry_steps-requires : goal.carry_steps-requires
 carry_steps-requires c =

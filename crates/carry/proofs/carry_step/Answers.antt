@@ -5,17 +5,17 @@ use Rattle.carry.proofs.CarryLaws.{map-place, link-bytes}
 use Rattle.carry.proofs.carry_step.Goals as goal
 
 pub map_word_place-requires : goal.map_word_place-requires
-map_word_place-requires c =    let s = on-shaped c.args.g c.args.image.now c.requires.on in record {
-      limits = s.limits;
-      k_lt_m = map-place c.args.g c.args.image.now c.requires.on c.args.step c.requires.step_value _ _ _ c.in-Map.is;
-    }
+map_word_place-requires c = let s = on-shaped c.args.g c.args.image.now c.requires.on in record {
+  limits = s.limits;
+  k_lt_m = map-place c.args.g c.args.image.now c.requires.on c.args.step c.requires.step_value _ _ _ c.in-Map.is;
+}
 
 pub store-requires : goal.store-requires
-store-requires c =    let s = on-shaped c.args.g c.args.image.now c.requires.on in
+store-requires c = let s = on-shaped c.args.g c.args.image.now c.requires.on in
     omega (arith, s.size, c.map_word_place.ensures)
 
 pub store-requires-in-Link : goal.store-requires-in-Link
-store-requires-in-Link c =    link-bytes c.args.g c.args.image.now c.requires.on c.args.step c.requires.step_value _ _ c.in-Link.is
+store-requires-in-Link c = link-bytes c.args.g c.args.image.now c.requires.on c.args.step c.requires.step_value _ _ c.in-Link.is
 
 pub returns-in-Map : goal.returns-in-Map
 returns-in-Map c =

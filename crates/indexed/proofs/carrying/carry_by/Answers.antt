@@ -14,9 +14,9 @@ slice_bounds-carry_in-end c = sym (units-few c.args.sets.now c.requires.set_word
 
 pub carry_in-requires : goal.carry_in-requires
 carry_in-requires c = record {
-      on = c.requires.on;
-      units_bound = omega (arith, units-few c.args.sets.now c.requires.set_words_in_bounds);
-    }
+  on = c.requires.on;
+  units_bound = omega (arith, units-few c.args.sets.now c.requires.set_words_in_bounds);
+}
 
 pub returns : goal.returns
 returns c =

@@ -7,15 +7,15 @@ use Rattle.indexed.proofs.carrying.follow.Goals as goal
 
 pub link-new-requires : goal.link-new-requires
 link-new-requires c = record {
-      shaped = on-shaped _ _ c.requires.on;
-      i_lt_c = c.requires.chunk_lt_c.0;
-    }
+  shaped = on-shaped _ _ c.requires.on;
+  i_lt_c = c.requires.chunk_lt_c.0;
+}
 
 pub renew-requires : goal.renew-requires
 renew-requires c = record {
-      shaped = on-shaped _ _ c.requires.on;
-      set_words_in_bounds = c.requires.chunk_lt_c.1;
-    }
+  shaped = on-shaped _ _ c.requires.on;
+  set_words_in_bounds = c.requires.chunk_lt_c.1;
+}
 
 pub returns-then-link_within : goal.returns-then-link_within
 returns-then-link_within c =

@@ -1,6 +1,5 @@
 use Rattle.bitset.proofs.BitSets.{as-set}
 use Rattle.renewal.proofs.Renewing.{putting, walked_none, walked_start, walked_stop, walked_more, walked_end}
-use Prim.Native.Nat.{◌-◌}
 use native.Mathlib.Omega.{arith}
 use Rattle.renewal.proofs.renew.put_in.Goals as goal
 
