@@ -12,7 +12,6 @@ use lib.Seq.{length-take-le}
 use Rattle.search.proofs.Bools.{either, and-false-left, and-false-right}
 use Rattle.layout.specs.declared.Shape.{Shape}
 use Rattle.layout.specs.declared.Refusal.TheVariants.{Range, Size, BadPlan}
-use Rattle.layout.specs.Layout.{shape_of}
 use Rattle.image.specs.Verdicts.{verdict}
 use Rattle.image.specs.Answers.{if_sound}
 use Rattle.steps.specs.declared.Request.{Request}
