@@ -1,7 +1,7 @@
 /* A maker's firmware in small: it formats a volume, writes a chunk, refuses a plan that came from elsewhere, and survives a power cut. It opens the volume
  * when it starts up, and works by the held index from then on: no read and no write goes over the whole image again.
  *
- *   rt staticlib sumbilak
+ *   bash .ci/built, after rt ci (or as README.md says)
  *   gcc -Wall -Wextra -Werror -Iinclude examples/firmware.c target/staticlib/libsumbilak.a -o firmware
  */
 #include <stdio.h>
