@@ -82,7 +82,7 @@ pub fn fill(set: &mut [u64], n: usize)
     ensures { set.new ≡ bit_set (λ u. ltb u n) (length set.old) }
 {
     let last = n / 64;
-    let full = if last < set.len() { last } else { set.len() };
+    let full = last.min(set.len());
     for i in 0..full {
         set[i] = FULL;
     }
@@ -131,11 +131,8 @@ pub fn fill_outside(set: &mut [u64], low: usize, high: usize)
     requires set_value { set.old ≡ replicate (words_for high) 0 }
     ensures { set.new ≡ bit_set (λ u. not (leb low u && ltb u high)) (words_for high) }
 {
-    let first = low / 64;
-    let mut at: usize = 0;
-    while at <= first {
+    for at in 0..low / 64 + 1 {
         set[at] = word_below(low, at);
-        at += 1;
     }
     let last = set.len() - 1;
     // The numbers below `low` are below `high`, so that the sum never wraps.
@@ -188,10 +185,8 @@ fn count_words(set: &[u64], end: usize) -> usize
     ensures { result ≡ length (members_below set.now (64 * end)) }
 {
     let mut n: usize = 0;
-    let mut i: usize = 0;
-    while i < end {
+    for i in 0..end {
         n += u64::count_ones(set[i]) as usize;
-        i += 1;
     }
     n
 }

@@ -1,4 +1,5 @@
 -- Laws of format: the stores of its trailer are the trailer's bytes, and the fresh image is what they leave.
+use Rattle.std.specs.Prelude.{Ok, Err}
 use Rattle.std.proofs.Common.{◌≡◌, ℕ, ◌+◌, ◌≤◌, Bool, true, false, cond, eqb, List, ◌++◌, length, drop, replicate, sym, refl, ap, ◌∙◌, append-nil, arith, length-append, length-drop, eq-eqb, ne_eqb}
 use Rattle.search.proofs.Bools.{and_left}
 use Rattle.words.proofs.Laws.{sets-append, length_digits}
@@ -7,7 +8,6 @@ use lib.Seq.{sets, sets-eq, take-append_seam, drop-append-add, drop-length}
 use Rattle.words.specs.Words.{store_at}
 use Rattle.layout.specs.declared.Shape.{Shape}
 use Rattle.layout.specs.declared.Refusal.TheVariants.{Geometry}
-use Rattle.layout.specs.declared.Formatted.TheVariants.{Done, Refused}
 use Rattle.layout.specs.Layout.{first_edition, last_edition, max_units, tag, within_limits, map_bytes, trailer_start, image_bytes, shape_bytes, size_bytes, added_bytes, trailer_of, fresh}
 use Rattle.layout.specs.Shaped.{Limits}
 use Rattle.layout.proofs.Limits.{no-limits, units-high}
@@ -65,11 +65,11 @@ fresh-run s g lim e =
     ∙ (rw (length-replicate {A = ℕ} t 255) at (paste-end a b (front ++ added_bytes g) size))
 
 -- what is answered and left, by whether the shape and the length are good
-pub refused : (g : Shape) (s : List ℕ) → formats g s ≡ false → (Refused Geometry ≡ format_answer g s) × (s ≡ format_image g s)
+pub refused : (g : Shape) (s : List ℕ) → formats g s ≡ false → (Err Geometry ≡ format_answer g s) × (s ≡ format_image g s)
 unfolding format_answer format_image
 refused g s e = (rw e, rw e)
 
-pub done : (g : Shape) (s : List ℕ) → formats g s ≡ true → (Done ≡ format_answer g s) × (fresh g ≡ format_image g s)
+pub done : (g : Shape) (s : List ℕ) → formats g s ≡ true → ((Ok tt) ≡ format_answer g s) × (fresh g ≡ format_image g s)
 unfolding format_answer format_image
 done g s e = (rw e, rw e)
 
@@ -78,7 +78,7 @@ unfolding formats
 bad-limits g s e = rw e
 
 -- the same, of a shape that the limits shut out
-pub beyond : (g : Shape) (s : List ℕ) → (Limits g → g.n ≤ max_units → ⊥) → (Refused Geometry ≡ format_answer g s) × (s ≡ format_image g s)
+pub beyond : (g : Shape) (s : List ℕ) → (Limits g → g.n ≤ max_units → ⊥) → (Err Geometry ≡ format_answer g s) × (s ≡ format_image g s)
 beyond g s h = refused g s (bad-limits g s (no-limits g (λ l. h l (units-high g l))))
 
 pub bad-length : (g : Shape) (s : List ℕ) → within_limits g ≡ true → (length s ≡ image_bytes g → ⊥) → formats g s ≡ false
@@ -90,10 +90,10 @@ unfolding formats
 good g s e h = rw (e, eq-eqb _ _ h)
 
 -- where format is done, the shape is within the limits and the image is the fresh one
-pub formatted : (g : Shape) (s : List ℕ) → format_answer g s ≡ Done → (within_limits g ≡ true) × (format_image g s ≡ fresh g)
+pub formatted : (g : Shape) (s : List ℕ) → format_answer g s ≡ Ok tt → (within_limits g ≡ true) × (format_image g s ≡ fresh g)
 unfolding format_answer formats
 formatted g s d = go (formats g s) refl d
   where
-    go : (b : Bool) → formats g s ≡ b → cond b Done (Refused Geometry) ≡ Done → (within_limits g ≡ true) × (format_image g s ≡ fresh g)
+    go : (b : Bool) → formats g s ≡ b → cond b (Ok (tt {0})) (Err Geometry) ≡ Ok tt → (within_limits g ≡ true) × (format_image g s ≡ fresh g)
     go true e h = (and_left (within_limits g) (eqb (length s) (image_bytes g)) e, sym (done g s e).1)
     go false e h = let z : ◌≡◌ {A = ℕ} 0 1 = cc in absurd (omega arith)

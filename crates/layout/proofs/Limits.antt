@@ -1,10 +1,13 @@
 -- What the limits of a shape say of its numbers, and the sizes that follow.
-use Rattle.std.proofs.Common.{◌≡◌, ℕ, ◌+◌, ◌-◌, ◌*◌, ◌%◌, ◌^◌, ◌<◌, ◌≤◌, Bool, true, false, cond, not, ◌&&◌, ◌||◌, eqb, ltb, leb, ◌⊎◌, List, length, sym, refl, ap, ◌∙◌, subst, inl, inr, ⊎_elim, mul-le-mul_right, mul-le-mul, arith, rules, ltb-false, ltb-true, le-ltb, lt-ltb, eq-eqb, ne_eqb, eqb-true, le-leb, leb-true}
+use Rattle.std.specs.Prelude.{Ok, Err, Some, None}
+use Rattle.std.proofs.Common.{◌≡◌, ℕ, ◌+◌, ◌-◌, ◌*◌, ◌%◌, ◌^◌, ◌<◌, ◌≤◌, Bool, true, false, cond, not, ◌&&◌, ◌||◌, ◌==◌, nat_eq, slice_index, [], ◌∷◌, take, drop, eqb, ltb, leb, ◌⊎◌, List, length, sym, refl, ap, ◌∙◌, subst, inl, inr, ⊎_elim, mul-le-mul_right, mul-le-mul, arith, rules, ltb-false, ltb-true, le-ltb, lt-ltb, eq-eqb, ne_eqb, eqb-true, le-leb, leb-true}
 use borrow.Author.Tests.{lt-leb, eqb-false}
+use lib.Pointwise.{pointwise}
+use Rattle.std.proofs.lemmas.List.{drop_more}
+use Rattle.words.specs.Words.{u16_at}
 use Rattle.layout.specs.declared.Shape.{Shape}
-use Rattle.layout.specs.Layout.{X, first_edition, last_edition, min_chunk_units, max_chunk_units, min_chunks, max_chunks, min_spare_maps, max_spare_maps, max_maps, max_units, max_map_words, max_maps_words, max_image_bytes, max_reserved, head, map_words, is_unit, trailer_bytes, within_limits, tagged_at, known_as, edition_of, trailer_at, agreeing, spare_zero, known, fitting, shape_of, image_bytes}
+use Rattle.layout.specs.Layout.{X, tag, first_edition, last_edition, min_chunk_units, max_chunk_units, min_chunks, max_chunks, min_spare_maps, max_spare_maps, max_maps, max_units, max_map_words, max_maps_words, max_image_bytes, max_reserved, head, map_words, is_unit, trailer_bytes, within_limits, tagged_at, known_as, edition_of, trailer_at, agreeing, spare_zero, known, fitting, shape_of, image_bytes}
 use Rattle.layout.specs.declared.Refusal.TheVariants.{Short, Foreign, Geometry}
-use Rattle.layout.specs.declared.Trailer.TheVariants.{Fits, Refused}
 use Rattle.layout.specs.Trailer.{trailer_outcome}
 use Rattle.layout.specs.Shaped.{Limits, Shaped, On}
 use Rattle.search.proofs.Bools.{and_left, and_right, and_intro, is_false, either, cond-true, cond-false}
@@ -103,15 +106,41 @@ known_as_lem s = go (known_as first_edition s) refl
     go false e = refl
 
 -- what the code finds: the edition of a known trailer, or 0
-pub edition-none : (s : List ℕ) (e : ℕ) → e ≡ cond (known s) (edition_of s) 0 → e ≡ 0 → known s ≡ false
-edition-none s e h z = is_false (known s) (λ k. let n = cond-true (known s) (edition_of s) 0 k in omega (arith, edition-some s))
+-- four bytes as a part, and one by one
+four-bytes : (s : List ℕ) (t : ℕ) → t + 4 ≤ length s
+    → take (t + 4 - t) (drop t s) ≡ slice_index s t ∷ slice_index s (t + 1) ∷ slice_index s (t + 2) ∷ slice_index s (t + 3) ∷ []
+four-bytes s t h =
+    let n : t + 4 - t ≡ 4 = omega arith in
+    let three : (t + 1) + 1 ≡ t + 2 = omega arith in
+    let four : (t + 2) + 1 ≡ t + 3 = omega arith in
+    rw (n, drop_more s t 0 (omega arith), drop_more s (t + 1) 0 (omega arith), three, drop_more s (t + 2) 0 (omega arith), four, drop_more s (t + 3) 0 (omega arith)) refl
 
-pub edition-found : (s : List ℕ) (e : ℕ) → e ≡ cond (known s) (edition_of s) 0 → (e ≡ 0 → ⊥) → (known s ≡ true) × (e ≡ edition_of s)
-edition-found s e h n = go (known s) refl h
+-- the tag and a version, where the tag is compared as a part
+pub tagged-part : (s : List ℕ) (t version : ℕ) (b : Bool) → t + 4 ≤ length s → b ≡ pointwise nat_eq (take (t + 4 - t) (drop t s)) tag
+    → (b && u16_at s (t + 4) == version) ≡ tagged_at s t version
+unfolding tagged_at
+tagged-part s t version b h e =
+    ap (λ (x : Bool). x && u16_at s (t + 4) == version) e
+    ∙ ap (λ (l : List ℕ). pointwise nat_eq l tag && u16_at s (t + 4) == version) (four-bytes s t h)
+    ∙ regroup (slice_index s t == slice_index tag 0) (slice_index s (t + 1) == slice_index tag 1) (slice_index s (t + 2) == slice_index tag 2)
+    (slice_index s (t + 3) == slice_index tag 3) (u16_at s (t + 4) == version)
   where
-    go : (b : Bool) → known s ≡ b → e ≡ cond b (edition_of s) 0 → (known s ≡ true) × (e ≡ edition_of s)
-    go true k f = (k, f)
-    go false k f = absurd (n f)
+    regroup : (p q r v u : Bool) → ((p && (q && (r && (v && true)))) && u) ≡ (p && q && r && v && u)
+    regroup false q r v u = refl
+    regroup true false r v u = refl
+    regroup true true false v u = refl
+    regroup true true true false u = refl
+    regroup true true true true u = refl
+
+pub edition-none : (s : List ℕ) → None ≡ cond (known s) (Some (edition_of s)) None → known s ≡ false
+edition-none s h = is_false (known s) (λ k. let e = h ∙ cond-true (known s) (Some (edition_of s)) None k in let z : ◌≡◌ {A = ℕ} 0 1 = cc in omega arith)
+
+pub edition-found : (s : List ℕ) (e : ℕ) → Some e ≡ cond (known s) (Some (edition_of s)) None → (known s ≡ true) × (e ≡ edition_of s)
+edition-found s e h = go (known s) refl h
+  where
+    go : (b : Bool) → known s ≡ b → Some e ≡ cond b (Some (edition_of s)) None → (known s ≡ true) × (e ≡ edition_of s)
+    go true k f = (k, cc)
+    go false k f = let z : ◌≡◌ {A = ℕ} 0 1 = cc in absurd (omega arith)
 
 pub shape-edition : (s : List ℕ) → (shape_of s).edition ≡ edition_of s
 unfolding shape_of
@@ -224,17 +253,17 @@ absent-no-unit g l = let n = units-high g l in past_units g X (omega arith)
 
 -- ---- rows 1 to 3: an image whose trailer fits
 
-pub fits_on : (s : List ℕ) (g : Shape) → trailer_outcome s ≡ Fits g → On g s
+pub fits_on : (s : List ℕ) (g : Shape) → trailer_outcome s ≡ Ok g → On g s
 unfolding trailer_outcome
 fits_on s g e = go (ltb (length s) (trailer_bytes first_edition)) (known s) (fitting s) refl refl refl e
   where
     go : (a b d : Bool) → ltb (length s) (trailer_bytes first_edition) ≡ a → known s ≡ b → fitting s ≡ d
-        → cond a (Refused Short) (cond (not b) (Refused Foreign) (cond (not d) (Refused Geometry) (Fits (shape_of s)))) ≡ Fits g → On g s
+        → cond a (Err Short) (cond (not b) (Err Foreign) (cond (not d) (Err Geometry) (Ok (shape_of s)))) ≡ Ok g → On g s
     go true b d ea eb ed h = let z : ◌≡◌ {A = ℕ} 0 1 = cc in absurd (omega arith)
     go false false d ea eb ed h = let z : ◌≡◌ {A = ℕ} 0 1 = cc in absurd (omega arith)
     go false true false ea eb ed h = let z : ◌≡◌ {A = ℕ} 0 1 = cc in absurd (omega arith)
     go false true true ea eb ed h = record { long = ltb-false (length s) (trailer_bytes first_edition) ea; shape = cc; known = eb; fitting = ed }
 
-pub on_fits : (s : List ℕ) → trailer_bytes first_edition ≤ length s → known s ≡ true → fitting s ≡ true → trailer_outcome s ≡ Fits (shape_of s)
+pub on_fits : (s : List ℕ) → trailer_bytes first_edition ≤ length s → known s ≡ true → fitting s ≡ true → trailer_outcome s ≡ Ok (shape_of s)
 unfolding trailer_outcome
 on_fits s l k f = rw (le-ltb (length s) (trailer_bytes first_edition) l, k, f)

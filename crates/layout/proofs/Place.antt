@@ -1,4 +1,5 @@
 -- Storing a word of the image: its shape stays, that word is the one stored, and every other word stays.
+use Rattle.std.specs.Prelude.{Ok, Err}
 use Rattle.std.proofs.Common.{◌≡◌, ℕ, ◌+◌, ◌-◌, ◌*◌, ◌/◌, ◌%◌, ◌<◌, ◌≤◌, Bool, cond, not, ◌&&◌, ◌||◌, eqb, ltb, leb, ◌≢◌, List, length, get_or, drop, sym, ap, ◌∙◌, subst, arith}
 use lib.Arith.{digits_lt, digits_div, digits_mod}
 use Rattle.words.specs.Words.{number, digits}
@@ -7,7 +8,6 @@ use Rattle.words.proofs.Store.{Outside, get_or-sets-outside, number-store-apart,
 use Rattle.layout.specs.declared.Shape.{Shape}
 use Rattle.layout.specs.Layout.{X, first_edition, last_edition, max_words, tagged_at, known_as, edition_of, reserved_at, agreeing, spare_zero, map_bytes, trailer_bytes, trailer_start, trailer_at, within_limits, image_bytes, map_words, shape_of, known, fitting, word_at, put_word, map_word_place}
 use Rattle.layout.specs.declared.Refusal.TheVariants.{Short, Foreign, Geometry}
-use Rattle.layout.specs.declared.Trailer.TheVariants.{Fits, Refused}
 use Rattle.layout.specs.Trailer.{trailer_outcome}
 use Rattle.layout.proofs.Limits.{edition-some, maps-high, known_as_lem, shape-edition, fitting-limits, fitting-length}
 use Rattle.layout.specs.Shaped.{Limits, On, word_count}
@@ -75,8 +75,8 @@ module _ (s t : List ℕ) (a : Alike s t) where
   unfolding trailer_outcome
   alike-outcome =
       λ i.
-      cond (ltb (a.size i) (trailer_bytes first_edition)) (Refused Short)
-      (cond (not (alike-known i)) (Refused Foreign) (cond (not (alike-fitting i)) (Refused Geometry) (Fits (alike-shape i))))
+      cond (ltb (a.size i) (trailer_bytes first_edition)) (Err Short)
+      (cond (not (alike-known i)) (Err Foreign) (cond (not (alike-fitting i)) (Err Geometry) (Ok (alike-shape i))))
 
 -- ---- a word is stored
 

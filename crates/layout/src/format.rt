@@ -5,9 +5,9 @@ ghost use Rattle.layout.specs.Layout.{edition1, edition2, within_limits, head, t
 ghost use Rattle.layout.specs.Format.{format_answer, format_image};
 
 use crate::{
-    CHUNK_UNITS_AT, CHUNKS_AT, FIRST_EDITION, Formatted, LAST_EDITION, MAPS_AT, MAX_CHUNK_UNITS,
-    MAX_CHUNKS, MAX_MAPS, MAX_UNITS, RESERVED_AT, Refusal, SIZES_AT, Shape, TAG, UNITS_AT,
-    VERSION_AT, trailers,
+    CHUNK_UNITS_AT, CHUNKS_AT, FIRST_EDITION, LAST_EDITION, MAPS_AT, MAX_CHUNK_UNITS, MAX_CHUNKS,
+    MAX_MAPS, MAX_UNITS, RESERVED_AT, Refusal, SIZES_AT, Shape, TAG, UNITS_AT, VERSION_AT,
+    trailers,
 };
 
 // Fills the first `end` bytes with 255.
@@ -15,11 +15,7 @@ fn fill(image: &mut [u8], end: usize)
     requires { end ≤ length image.old }
     ensures { image.new ≡ replicate end 255 ++ drop end image.old }
 {
-    let mut i = 0;
-    while i < end {
-        image[i] = 255;
-        i += 1;
-    }
+    image[..end].fill(255);
 }
 
 // Stores the four bytes that a trailer begins with.
@@ -27,11 +23,7 @@ fn put_tag(image: &mut [u8], t: usize)
     requires { t + 4 ≤ length image.old }
     ensures { image.new ≡ sets image.old t tag }
 {
-    let tag = TAG;
-    image[t] = tag[0];
-    image[t + 1] = tag[1];
-    image[t + 2] = tag[2];
-    image[t + 3] = tag[3];
+    image[t..t + 4].copy_from_slice(&TAG);
 }
 
 // Stores the trailer's first 20 bytes.
@@ -39,11 +31,9 @@ fn put_shape(image: &mut [u8], t: usize, g: Shape)
     requires { (t + 20 ≤ length image.old) × (within_limits g ≡ true) }
     ensures { image.new ≡ sets image.old t (shape_bytes g) }
 {
-    let edition = g.edition;
-    let p = g.p;
     put_tag(image, t);
-    words::put_u16(image, t + VERSION_AT, edition as u16);
-    words::put_u16(image, t + CHUNK_UNITS_AT, p as u16);
+    words::put_u16(image, t + VERSION_AT, g.edition as u16);
+    words::put_u16(image, t + CHUNK_UNITS_AT, g.p as u16);
     words::put_u32(image, t + CHUNKS_AT, g.c);
     words::put_u32(image, t + MAPS_AT, g.m);
     words::put_u32(image, t + UNITS_AT, g.n);
@@ -54,10 +44,8 @@ fn put_sizes(image: &mut [u8], at: usize, g: Shape)
     requires { (at + 12 ≤ length image.old) × (within_limits g ≡ true) }
     ensures { image.new ≡ sets image.old at (size_bytes g) }
 {
-    let start = trailers::trailer_start(g);
-    let maps = trailers::map_bytes(g);
-    words::put_u32(image, at, start);
-    words::put_u32(image, at + 4, maps);
+    words::put_u32(image, at, trailers::trailer_start(g));
+    words::put_u32(image, at + 4, trailers::map_bytes(g));
     words::put_u32(image, at + 8, trailers::image_bytes(g));
 }
 
@@ -73,7 +61,15 @@ fn put_added(image: &mut [u8], at: usize, g: Shape)
 }
 
 // Writes the image of a fresh volume of a shape in 32-bit numbers, or refuses it or the buffer's length and changes nothing.
-fn format_shape(image: &mut [u8], edition: u32, p: u32, c: u32, m: u32, n: u32, r: u32) -> Formatted
+fn format_shape(
+    image: &mut [u8],
+    edition: u32,
+    p: u32,
+    c: u32,
+    m: u32,
+    n: u32,
+    r: u32,
+) -> Result<(), Refusal>
     ensures value { result ≡ format_answer (record { edition = edition; p = p; c = c; m = m; n = n; r = r }) image.old }
     ensures image_after { image.new ≡ format_image (record { edition = edition; p = p; c = c; m = m; n = n; r = r }) image.old }
 {
@@ -86,17 +82,17 @@ fn format_shape(image: &mut [u8], edition: u32, p: u32, c: u32, m: u32, n: u32, 
         r,
     };
     if !trailers::within_limits(g) {
-        return Formatted::Refused(Refusal::Geometry);
+        return Err(Refusal::Geometry);
     }
     if image.len() != trailers::image_bytes(g) as usize {
-        return Formatted::Refused(Refusal::Geometry);
+        return Err(Refusal::Geometry);
     }
     let start = trailers::trailer_start(g) as usize;
     fill(image, start);
     put_shape(image, start, g);
     put_sizes(image, start + SIZES_AT, g);
     put_added(image, start + RESERVED_AT, g);
-    Formatted::Done
+    Ok(())
 }
 
 // The same for any five numbers: those past the limits are refused before they are cut to 32 bits.
@@ -108,24 +104,24 @@ fn format_edition(
     m: u64,
     n: u64,
     r: u64,
-) -> Formatted
+) -> Result<(), Refusal>
     ensures value { result ≡ format_answer (record { edition = edition; p = p; c = c; m = m; n = n; r = r }) image.old }
     ensures image_after { image.new ≡ format_image (record { edition = edition; p = p; c = c; m = m; n = n; r = r }) image.old }
 {
     if p > MAX_CHUNK_UNITS as u64 {
-        return Formatted::Refused(Refusal::Geometry);
+        return Err(Refusal::Geometry);
     }
     if c > MAX_CHUNKS as u64 {
-        return Formatted::Refused(Refusal::Geometry);
+        return Err(Refusal::Geometry);
     }
     if m > MAX_MAPS as u64 {
-        return Formatted::Refused(Refusal::Geometry);
+        return Err(Refusal::Geometry);
     }
     if n > MAX_UNITS as u64 {
-        return Formatted::Refused(Refusal::Geometry);
+        return Err(Refusal::Geometry);
     }
     if r > MAX_UNITS as u64 {
-        return Formatted::Refused(Refusal::Geometry);
+        return Err(Refusal::Geometry);
     }
     format_shape(
         image, edition, p as u32, c as u32, m as u32, n as u32, r as u32,
@@ -133,7 +129,7 @@ fn format_edition(
 }
 
 // Writes the image of a fresh volume of edition 1, or refuses and changes nothing.
-pub fn format(image: &mut [u8], p: u64, c: u64, m: u64, n: u64) -> Formatted
+pub fn format(image: &mut [u8], p: u64, c: u64, m: u64, n: u64) -> Result<(), Refusal>
     ensures value { result ≡ format_answer (edition1 p c m n) image.old }
     ensures image_after { image.new ≡ format_image (edition1 p c m n) image.old }
 {
@@ -141,7 +137,7 @@ pub fn format(image: &mut [u8], p: u64, c: u64, m: u64, n: u64) -> Formatted
 }
 
 // The same of edition 2, with the first r units reserved.
-pub fn format2(image: &mut [u8], p: u64, c: u64, m: u64, n: u64, r: u64) -> Formatted
+pub fn format2(image: &mut [u8], p: u64, c: u64, m: u64, n: u64, r: u64) -> Result<(), Refusal>
     ensures value { result ≡ format_answer (edition2 p c m n r) image.old }
     ensures image_after { image.new ≡ format_image (edition2 p c m n r) image.old }
 {

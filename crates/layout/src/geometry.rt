@@ -37,10 +37,7 @@ pub fn map_word_place(g: Shape, k: usize, j: usize) -> usize
 fn unit_count(g: Shape) -> u32
     ensures { result ≡ g.n - g.r }
 {
-    if g.n < g.r {
-        return 0;
-    }
-    g.n - g.r
+    g.n.saturating_sub(g.r)
 }
 
 // Whether a number is a unit that a chunk may hold: below N, and not reserved. This is asked of every word that may name a unit, so it is one comparison:
@@ -48,8 +45,7 @@ fn unit_count(g: Shape) -> u32
 pub fn is_unit(g: Shape, u: u64) -> bool
     ensures { result ≡ is_unit g u }
 {
-    let past = std::num::wrapping_sub_u64(u, g.r as u64);
-    past < unit_count(g) as u64
+    u.wrapping_sub(g.r as u64) < unit_count(g) as u64
 }
 
 // How many units a compressed size takes.
@@ -64,8 +60,5 @@ pub fn units_for(size: u64) -> u64
 pub fn is_size(g: Shape, size: u64) -> bool
     ensures { result ≡ is_size g size }
 {
-    if size < 1 {
-        return false;
-    }
-    size <= g.p as u64 * UNIT_BYTES
+    1 <= size && size <= g.p as u64 * UNIT_BYTES
 }

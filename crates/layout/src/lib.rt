@@ -89,20 +89,6 @@ pub enum Refusal {
     BadAlarm,
 }
 
-// What format answers.
-#[derive(Clone, Copy)]
-pub enum Formatted {
-    Done,
-    Refused(Refusal),
-}
-
-// What an image's trailer answers: the shape that it says, or the first refusal of rows 1 to 3.
-#[derive(Clone, Copy)]
-pub enum Trailer {
-    Fits(Shape),
-    Refused(Refusal),
-}
-
 // The shape of a volume: its edition, document 01's P, C, M and N (units in a chunk, chunks, chunk maps, backing units), and R: the first R backing units
 // are reserved. Edition 1 has none.
 #[derive(Clone, Copy)]

@@ -1,5 +1,5 @@
 // The trailer: read and judged.
-ghost use Rattle.std.specs.Prelude.{◌≡◌, ◌+◌, ◌-◌, ◌*◌, ◌≤◌, true, length, if◌then◌else◌};
+ghost use Rattle.std.specs.Prelude.{◌≡◌, ◌+◌, ◌-◌, ◌*◌, ◌≤◌, true, length, if◌then◌else◌, Some, None};
 ghost use Rattle.layout.specs.Layout.{first_edition, last_edition, max_reserved, within_limits, tagged_at, known_as, edition_of, known, reserved_at, shape_of, agreeing, spare_zero, map_bytes, trailer_start, trailer_bytes, image_bytes};
 ghost use Rattle.layout.specs.Layout.{max_maps_words, max_words, max_trailer_bytes, max_image_bytes};
 ghost use Rattle.layout.specs.Trailer.{shape_outcome, trailer_outcome};
@@ -8,7 +8,7 @@ use crate::geometry::map_words;
 use crate::{
     ADDED_BYTES, CHUNK_UNITS_AT, CHUNKS_AT, FIRST_EDITION, LAST_EDITION, LENGTH_AT, LINKS_BACK_AT,
     MAPS_AT, MAPS_BACK_AT, MAX_CHUNK_UNITS, MAX_CHUNKS, MAX_SPARE_MAPS, MIN_CHUNK_UNITS,
-    MIN_CHUNKS, MIN_SPARE_MAPS, RESERVED_AT, Refusal, SPARE_AT, Shape, TAG, TRAILER_BYTES, Trailer,
+    MIN_CHUNKS, MIN_SPARE_MAPS, RESERVED_AT, Refusal, SPARE_AT, Shape, TAG, TRAILER_BYTES,
     UNITS_AT, VERSION_AT,
 };
 
@@ -78,20 +78,8 @@ fn is_tagged(s: &[u8], t: usize, version: u32) -> bool
     requires { t + 6 ≤ length s.now }
     ensures { result ≡ tagged_at s.now t version }
 {
-    let tag = TAG;
-    if s[t] != tag[0] {
-        return false;
-    }
-    if s[t + 1] != tag[1] {
-        return false;
-    }
-    if s[t + 2] != tag[2] {
-        return false;
-    }
-    if s[t + 3] != tag[3] {
-        return false;
-    }
-    words::get_u16(s, t + VERSION_AT) as u32 == version
+    let tag: &[u8] = &TAG;
+    &s[t..t + 4] == tag && words::get_u16(s, t + VERSION_AT) as u32 == version
 }
 
 // Whether the last bytes have an edition's tag and version.
@@ -106,17 +94,17 @@ pub fn is_known(s: &[u8], edition: u32) -> bool
     is_tagged(s, s.len() - size, edition)
 }
 
-// The edition whose tag and version the last bytes have, or 0.
-fn known_edition(s: &[u8]) -> u32
-    ensures { result ≡ (if known s.now then edition_of s.now else 0) }
+// The edition whose tag and version the last bytes have.
+fn known_edition(s: &[u8]) -> Option<u32>
+    ensures { result ≡ (if known s.now then Some (edition_of s.now) else None) }
 {
     if is_known(s, FIRST_EDITION) {
-        return FIRST_EDITION;
+        return Some(FIRST_EDITION);
     }
     if is_known(s, LAST_EDITION) {
-        return LAST_EDITION;
+        return Some(LAST_EDITION);
     }
-    0
+    None
 }
 
 // How many units are reserved, as an edition's trailer at byte t says.
@@ -204,33 +192,32 @@ fn spare_is_zero(s: &[u8], g: Shape) -> bool
 }
 
 // Row 3 of the table of refusals, of bytes with an edition's tag and version: the shape that the trailer says, or the refusal.
-fn check_shape(s: &[u8], edition: u32) -> Trailer
+fn check_shape(s: &[u8], edition: u32) -> Result<Shape, Refusal>
     requires { (known s.now ≡ true) × (edition ≡ edition_of s.now) }
     ensures { result ≡ shape_outcome s.now }
 {
     let g = shape_of(s, edition);
     if !within_limits(g) {
-        return Trailer::Refused(Refusal::Geometry);
+        return Err(Refusal::Geometry);
     }
     if !agrees(s, g) {
-        return Trailer::Refused(Refusal::Geometry);
+        return Err(Refusal::Geometry);
     }
     if !spare_is_zero(s, g) {
-        return Trailer::Refused(Refusal::Geometry);
+        return Err(Refusal::Geometry);
     }
-    Trailer::Fits(g)
+    Ok(g)
 }
 
 // Rows 1 to 3: the shape that the trailer says, or the first row that holds.
-pub fn check_trailer(s: &[u8]) -> Trailer
+pub fn check_trailer(s: &[u8]) -> Result<Shape, Refusal>
     ensures { result ≡ trailer_outcome s.now }
 {
     if s.len() < TRAILER_BYTES {
-        return Trailer::Refused(Refusal::Short);
+        return Err(Refusal::Short);
     }
-    let edition = known_edition(s);
-    if edition == 0 {
-        return Trailer::Refused(Refusal::Foreign);
-    }
+    let Some(edition) = known_edition(s) else {
+        return Err(Refusal::Foreign);
+    };
     check_shape(s, edition)
 }

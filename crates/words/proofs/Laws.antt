@@ -1,14 +1,15 @@
 -- Little-endian numbers, over the width: read, written as bytes, and stored as their low a bytes and then their high b bytes.
 use Prim.Native.Nat.{ℕ, zero, suc, ◌+◌, ◌*◌, ◌/◌, ◌%◌, ◌^◌, ◌≤◌, ◌<◌}
 use mathlib.Core.Path.{◌≡◌, refl, sym, ap, ◌∙◌}
-use mathlib.Core.List.{List, [], ◌∷◌, ◌++◌}
+use mathlib.Core.List.{List, [], ◌∷◌, ◌++◌, append_assoc}
 use native.Mathlib.Nat.{one-le-pow, zero-add, suc-add, add-zero, add-suc, pow-succ', pow-suc, div-one, div-div-eq-div-mul, mod-lt, mod-one, mod-eq_of_lt}
 use native.Mathlib.Numerals.{add-one}
 use native.Mathlib.Omega.{arith}
-use lib.ListN.{length, get_or, drop, set}
-use lib.Seq.{sets, sets-eq, length-sets, get_or-append-add}
+use lib.ListN.{length, get_or, take, drop, set}
+use lib.Seq.{sets, sets-eq, length-sets, get_or-append-add, drop-drop}
 use lib.Arith.{mod-mul, digits_div, digits_mod}
 use lib.Dec.{lit<}
+use borrow.Rule.Slice.PartMut.{put_mid}
 use Rattle.words.specs.Words.{number, digits, store_at}
 
 -- ---- read
@@ -93,3 +94,10 @@ store_split a b s at v =
 
 pub length-store : (w : ℕ) (s : List ℕ) (at v : ℕ) → length (store_at w s at v) ≡ length s
 length-store w s at v = length-sets s at (digits w v)
+
+-- a part that was written whole, with the bytes before and after it, is a run of stores
+pub put_mid-sets : (a k : ℕ) (xs ys : List ℕ) → length ys ≡ k → a + k ≤ length xs → put_mid a k xs ys ≡ sets xs a ys
+put_mid-sets a k xs ys e h =
+    ap (λ (r : List ℕ). take a xs ++ (ys ++ r)) (drop-drop k a xs ∙ ap (λ (n : ℕ). drop (a + n) xs) (sym e))
+    ∙ sym (append_assoc (take a xs) ys (drop (a + length ys) xs))
+    ∙ sym (sets-eq ys xs a (omega arith))

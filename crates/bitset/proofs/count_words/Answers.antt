@@ -24,12 +24,6 @@ overflow_cast-n c = omega (arith, ones-le 64 _ (small (goal.at.overflow_cast-n c
 pub overflow_add-n : goal.overflow_add-n
 overflow_add-n c = omega (arith, ones-le 64 _ (small (goal.at.overflow_add-n c).After-shared_slice_known-1))
 
-pub overflow_add-i : goal.overflow_add-i
-overflow_add-i c = omega arith
-
-pub loop-i-smaller : goal.loop-i-smaller
-loop-i-smaller c = omega arith
-
 pub loop-i-preserved : goal.loop-i-preserved
 loop-i-preserved c =
     let set = c.args.set.now in

@@ -12,5 +12,5 @@ invariant-loop-i l = (l.i ≤ l.full) × (l.full ≤ l.last) × (l.full ≤ leng
     × ((k : ℕ) → k < l.i → get_or l.set k 0 ≡ bits (λ u. ltb u l.n) (64 * k) 64)
 
 abbrev pub invariant-loop-i-2 : goal.invariant-loop-i-2
-invariant-loop-i-2 l = (l.full < l.i) × (l.i-end ≡ length l.initial.set) × (length l.set ≡ length l.initial.set)
-    × ((k : ℕ) → k < l.i → k < length l.initial.set → get_or l.set k 0 ≡ bits (λ u. ltb u l.n) (64 * k) 64)
+invariant-loop-i-2 l = (l.full < l.i) × (l.i-end ≡ length l.fn.set) × (length l.set ≡ length l.fn.set)
+    × ((k : ℕ) → k < l.i → k < length l.fn.set → get_or l.set k 0 ≡ bits (λ u. ltb u l.n) (64 * k) 64)

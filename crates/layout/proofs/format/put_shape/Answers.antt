@@ -4,12 +4,12 @@ use Rattle.layout.proofs.Limits.{limits}
 use Rattle.std.proofs.Common.{◌∙◌, arith}
 use Rattle.layout.proofs.format.put_shape.Goals as goal
 
-pub overflow_cast-edition : goal.overflow_cast-edition
-overflow_cast-edition c = let g = c.args.g in
+pub overflow_cast-g : goal.overflow_cast-g
+overflow_cast-g c = let g = c.args.g in
     omega (arith, limits g c.requires.1)
 
-pub overflow_cast-p : goal.overflow_cast-p
-overflow_cast-p c = let g = c.args.g in
+pub overflow_cast-g-2 : goal.overflow_cast-g-2
+overflow_cast-g-2 c = let g = c.args.g in
     omega (arith, (limits g c.requires.1).p-high)
 
 pub returns : goal.returns

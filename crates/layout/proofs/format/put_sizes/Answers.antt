@@ -6,7 +6,7 @@ use Rattle.layout.proofs.format.put_sizes.Goals as goal
 pub returns : goal.returns
 returns c =
     let a = c.args in
-    let start = c.trailer_start-start.ensures.0 in
+    let start = c.trailer_start.ensures.0 in
     c.put_u32-3.ensures
-    ∙ rw (c.put_u32-2.ensures, c.put_u32.ensures, c.image_bytes.ensures.0, c.map_bytes-maps.ensures.0, start)
+    ∙ rw (c.put_u32-2.ensures, c.put_u32.ensures, c.image_bytes.ensures.0, c.map_bytes.ensures.0, start)
     (size-run a.image.now a.at a.g)

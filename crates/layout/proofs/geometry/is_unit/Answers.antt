@@ -5,6 +5,5 @@ use Rattle.layout.proofs.geometry.is_unit.Goals as goal
 
 pub returns : goal.returns
 returns c =
-    let less = c.wrapping_sub_u64-past in
     rw c.unit_count.ensures
-    (wrapped-unit c.args.g c.args.u less.result (omega (arith, c.ranges)) (omega (arith, c.ranges)) less.type_inv less.ensures.value)
+    (wrapped-unit c.args.g c.args.u _ (omega (arith, c.ranges)) (omega (arith, c.ranges)) (omega (arith, c.ranges)) (omega (arith, c.ranges)))

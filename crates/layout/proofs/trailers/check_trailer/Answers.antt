@@ -8,15 +8,15 @@ pub returns-then-s-lt-TRAILER_BYTES : goal.returns-then-s-lt-TRAILER_BYTES
 unfolding trailer_outcome
 returns-then-s-lt-TRAILER_BYTES c = search tests
 
-pub returns-then-edition-eq0 : goal.returns-then-edition-eq0
+pub returns-in_default : goal.returns-in_default
 unfolding trailer_outcome
-returns-then-edition-eq0 c = rw (le-ltb _ _ c.if-s-lt-TRAILER_BYTES.false, edition-none _ _ c.known_edition-edition.ensures c.if-edition-eq0.true)
+returns-in_default c = rw (le-ltb _ _ c.if-s-lt-TRAILER_BYTES.false, edition-none _ c.in_default.ensures)
 
 pub check_shape-requires : goal.check_shape-requires
-check_shape-requires c = edition-found _ _ c.known_edition-edition.ensures c.if-edition-eq0.false
+check_shape-requires c = edition-found _ _ c.in-Some.ensures
 
 pub returns : goal.returns
 unfolding trailer_outcome
 returns c =
-    let found = edition-found _ _ c.known_edition-edition.ensures c.if-edition-eq0.false in
+    let found = edition-found _ _ c.in-Some.ensures in
     rw (le-ltb _ _ c.if-s-lt-TRAILER_BYTES.false, found.0) c.check_shape.ensures

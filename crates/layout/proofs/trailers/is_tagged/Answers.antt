@@ -1,26 +1,10 @@
--- `layout::trailers::is_tagged` meets its contract: the tests are the definition's, in its order.
-use Rattle.std.proofs.Common.{eq-eqb}
-use Rattle.layout.proofs.Limits.{tests}
-use Rattle.layout.specs.Layout.{tagged_at}
+-- `layout::trailers::is_tagged` meets its contract: the tag is compared as a part, and then the version.
+use Rattle.std.proofs.Common.{arith}
+use Rattle.layout.proofs.Limits.{tagged-part}
 use Rattle.layout.proofs.trailers.is_tagged.Goals as goal
 
-pub returns-then-s-t : goal.returns-then-s-t
-unfolding tagged_at
-returns-then-s-t c = search tests
+pub returns-then-eq : goal.returns-then-eq
+returns-then-eq c = rw (c.get_u16.ensures) (rw c.if-eq.true at (tagged-part c.args.s.now c.args.t c.args.version c.eq.result (omega (arith, c.requires)) c.eq.ensures))
 
-pub returns-then-s-t-2 : goal.returns-then-s-t-2
-unfolding tagged_at
-returns-then-s-t-2 c = search tests
-
-pub returns-then-s-t-3 : goal.returns-then-s-t-3
-unfolding tagged_at
-returns-then-s-t-3 c = search tests
-
-pub returns-then-s-t-4 : goal.returns-then-s-t-4
-unfolding tagged_at
-returns-then-s-t-4 c = search tests
-
-pub returns : goal.returns
-unfolding tagged_at
-returns c =
-    rw (eq-eqb _ _ c.if-s-t.false, eq-eqb _ _ c.if-s-t-2.false, eq-eqb _ _ c.if-s-t-3.false, eq-eqb _ _ c.if-s-t-4.false, ← c.get_u16.ensures)
+pub returns-else-eq : goal.returns-else-eq
+returns-else-eq c = rw c.if-eq.false (rw c.if-eq.false at (tagged-part c.args.s.now c.args.t c.args.version c.eq.result (omega (arith, c.requires)) c.eq.ensures))
