@@ -1,4 +1,5 @@
 -- Worked cases of document 01 on the 224-byte volume, computed: one statement.
+use Rattle.std.specs.Prelude.{Ok, Err}
 use Prim.Native.Nat.{ℕ}
 use mathlib.Core.Path.{◌≡◌, refl}
 use mathlib.Core.List.{List, [], ◌∷◌}
@@ -9,7 +10,6 @@ use Rattle.layout.specs.declared.Shape.{Shape}
 use Rattle.layout.specs.declared.Refusal.TheVariants.{Short, BadLink, BadMap, Shared}
 use Rattle.layout.specs.Trailer.{trailer_outcome}
 use Rattle.layout.specs.Layout.{X, edition1, is_unit, map_words, fresh, put_word, trailer_of, shape_bytes, size_bytes, added_bytes, tagged_at, known_as, edition_of, known, fitting, within_limits, max_reserved, reserved_at, shape_of, agreeing, spare_zero, words_of}
-use Rattle.image.specs.declared.Verdict.TheVariants.{Refused, Passed}
 use Rattle.image.specs.Soundness.{leading, units_of}
 use Rattle.image.specs.Verdicts.{verdict, chunk_verdict, bad_link, bad_map, double_claim, first_claim, contested, clash, well_formed, size_fits, good_form}
 use Rattle.image.specs.Free.{free_units, free_maps, free_unit, free_map, held_units}
@@ -45,16 +45,16 @@ unfolding fresh digits
 bad_entry = put_word empty_map 1 5
 
 worked :
-    (verdict [] ≡ Refused Short)
-    × (verdict (fresh small) ≡ Passed)
+    (verdict [] ≡ Err Short)
+    × (verdict (fresh small) ≡ Ok tt)
     × (free_units (fresh small) ≡ below 20)
     × (free_maps (fresh small) ≡ below 5)
-    × (verdict shared ≡ Refused (Shared 0 3))
-    × (verdict two_clashes ≡ Refused (Shared 1 2))
-    × (verdict twice ≡ Refused (Shared 0 0))
-    × (verdict empty_map ≡ Refused (BadMap 0))
-    × (verdict bad_entry ≡ Refused (BadLink 1))
-    × (verdict third ≡ Passed)
+    × (verdict shared ≡ Err (Shared 0 3))
+    × (verdict two_clashes ≡ Err (Shared 1 2))
+    × (verdict twice ≡ Err (Shared 0 0))
+    × (verdict empty_map ≡ Err (BadMap 0))
+    × (verdict bad_entry ≡ Err (BadLink 1))
+    × (verdict third ≡ Ok tt)
     × (held_units third ≡ 3 ∷ 4 ∷ 0 ∷ 1 ∷ [])
     × (free_units third ≡ 2 ∷ from 5 15)
     × (free_maps third ≡ 1 ∷ 3 ∷ 4 ∷ [])

@@ -187,13 +187,13 @@ module _ (s : List ℕ) (g : Shape) (e : g ≡ shape_of s) where
   unnamed-start k = ap (λ (h : Shape). ltb k h.m) e ∙ sym (and-true (ltb k (shape_of s).m))
 
   pub scanned-all : (j : ℕ) (units maps : List ℕ) → j ≡ g.c → j ≡ double_claim s → units ≡ bit_set (unheld s j) unit_set_words → maps ≡ bit_set (unnamed s j) map_set_words
-      → Scanned s j units maps
+      → Scanned s g.c units maps
   unfolding unheld unnamed free_unit free_map
   scanned-all j units maps l r u m =
       record {
-        right = r;
-        units-left = λ z. u ∙ ap (λ (i : ℕ). bit_set (unheld s i) unit_set_words) z;
-        maps-left = λ z. m ∙ ap (λ (i : ℕ). bit_set (unnamed s i) map_set_words) z;
+        right = sym l ∙ r;
+        units-left = λ z. u ∙ ap (λ (i : ℕ). bit_set (unheld s i) unit_set_words) (l ∙ z);
+        maps-left = λ z. m ∙ ap (λ (i : ℕ). bit_set (unnamed s i) map_set_words) (l ∙ z);
       }
 
   pub scanned-part : (j : ℕ) (units maps : List ℕ) → j < g.c → j ≡ double_claim s → Scanned s j units maps

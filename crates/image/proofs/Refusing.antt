@@ -1,4 +1,5 @@
 -- An image is refused with the row that holds of it: `verdict` against the rows to read.
+use Rattle.std.specs.Prelude.{Result, Ok, Err, ⊤}
 use Prim.Native.Nat.{ℕ, ◌≤◌, ◌<◌}
 use mathlib.Core.Path.{◌≡◌, refl, sym, ap, subst, ◌∙◌}
 use mathlib.Core.Logic.{◌⊎◌, inl, inr, ⊎_elim}
@@ -15,8 +16,6 @@ use Rattle.layout.specs.declared.Refusal.{Refusal}
 use Rattle.layout.specs.declared.Refusal.TheVariants.{Short, Foreign, Geometry, BadLink, BadMap, Shared, Range, Size, NoRoom, Small, BadPlan, BadAlarm}
 use Rattle.layout.specs.Layout.{first_edition, trailer_bytes, shape_of, known, fitting}
 use Rattle.layout.specs.Trailer.{trailer_outcome}
-use Rattle.image.specs.declared.Verdict.{Verdict}
-use Rattle.image.specs.declared.Verdict.TheVariants.{Refused, Passed}
 use Rattle.image.specs.Verdicts.{good_link, good_map, clash, contested, bad_link, bad_map, double_claim, first_claim, chunk_verdict, verdict}
 use Rattle.image.specs.Rows.{LowestOf, PastRow3, PastRow4, PastRow5, Row}
 
@@ -34,11 +33,11 @@ none_found f n h i l = lowest-before f n i (omega (arith, ltb-false (lowest f n)
 -- ---- what a verdict says
 
 -- of a refused image the row; of a passed one nothing
-abbrev Says : List ℕ → Verdict → Type 0
-Says s Passed = Unit {0}
-Says s (Refused r) = Row s r
+abbrev Says : List ℕ → Result ⊤ Refusal → Type 0
+Says s (Ok tt) = Unit {0}
+Says s (Err r) = Row s r
 
-says-cond : (s : List ℕ) (b : Bool) (r : Refusal) (v : Verdict) → (b ≡ true → Row s r) → (b ≡ false → Says s v) → Says s (cond b (Refused r) v)
+says-cond : (s : List ℕ) (b : Bool) (r : Refusal) (v : Result ⊤ Refusal) → (b ≡ true → Row s r) → (b ≡ false → Says s v) → Says s (cond b (Err r) v)
 says-cond s true r v holds fails = holds refl
 says-cond s false r v holds fails = fails refl
 
@@ -54,10 +53,10 @@ module _ (s : List ℕ) where
       (λ e. inr (omega (arith, lowest-le f j, ltb-false (lowest f j) j e), none_found f j e))
       (either (ltb (lowest f j) j))
 
-  says-sharing : PastRow5 s → Says s (cond (ltb (double_claim s) c) (Refused (Shared (first_claim s (double_claim s)) (double_claim s))) Passed)
+  says-sharing : PastRow5 s → Says s (cond (ltb (double_claim s) c) (Err (Shared (first_claim s (double_claim s)) (double_claim s))) (Ok tt))
   unfolding double_claim
   says-sharing f =
-      says-cond s (ltb (double_claim s) c) (Shared (first_claim s (double_claim s)) (double_claim s)) Passed
+      says-cond s (ltb (double_claim s) c) (Shared (first_claim s (double_claim s)) (double_claim s)) (Ok tt)
       (λ e. (f, found-lowest (contested s) c e, first_chunk (double_claim s))) (λ e. tt)
 
   says-chunks : PastRow3 s → Says s (chunk_verdict s)
@@ -68,15 +67,15 @@ module _ (s : List ℕ) where
       says-cond s (ltb (bad_map s) c) (BadMap (bad_map s)) _ (λ d. (l, found-lowest (λ j. not (good_map s j)) c d)) (λ d.
       says-sharing (l, λ i h. not-false _ (none_found (λ j. not (good_map s j)) c d i h))))
 
-  short-verdict : length s < trailer_bytes first_edition → verdict s ≡ Refused Short
+  short-verdict : length s < trailer_bytes first_edition → verdict s ≡ Err Short
   unfolding verdict trailer_outcome
   short-verdict l = rw (lt-ltb (length s) (trailer_bytes first_edition) l)
 
-  foreign-verdict : trailer_bytes first_edition ≤ length s → known s ≡ false → verdict s ≡ Refused Foreign
+  foreign-verdict : trailer_bytes first_edition ≤ length s → known s ≡ false → verdict s ≡ Err Foreign
   unfolding verdict trailer_outcome
   foreign-verdict l k = rw (le-ltb (length s) (trailer_bytes first_edition) l, k)
 
-  geometry-verdict : trailer_bytes first_edition ≤ length s → known s ≡ true → fitting s ≡ false → verdict s ≡ Refused Geometry
+  geometry-verdict : trailer_bytes first_edition ≤ length s → known s ≡ true → fitting s ≡ false → verdict s ≡ Err Geometry
   unfolding verdict trailer_outcome
   geometry-verdict l k f = rw (le-ltb (length s) (trailer_bytes first_edition) l, k, f)
 
@@ -96,7 +95,7 @@ module _ (s : List ℕ) where
       (either (known s)))
       (either (ltb (length s) (trailer_bytes first_edition)))
 
-  pub refused-row : (r : Refusal) → verdict s ≡ Refused r → Row s r
+  pub refused-row : (r : Refusal) → verdict s ≡ Err r → Row s r
   refused-row r e = subst (Says s) e says-verdict
 
   -- ---- and what the rows say of the verdict
@@ -109,15 +108,15 @@ module _ (s : List ℕ) where
   unfolding bad_map
   formed-none f = lowest-none (λ j. not (good_map s j)) c (λ i h. ap not (f.1 i h))
 
-  link-verdict : (i : ℕ) → LowestOf (λ j. not (good_link s j)) c i → chunk_verdict s ≡ Refused (BadLink i)
+  link-verdict : (i : ℕ) → LowestOf (λ j. not (good_link s j)) c i → chunk_verdict s ≡ Err (BadLink i)
   unfolding chunk_verdict bad_link
   link-verdict i h = rw (lowest-found (λ j. not (good_link s j)) c i h, lt-ltb i c h.0)
 
-  map-verdict : (i : ℕ) → PastRow4 s → LowestOf (λ j. not (good_map s j)) c i → chunk_verdict s ≡ Refused (BadMap i)
+  map-verdict : (i : ℕ) → PastRow4 s → LowestOf (λ j. not (good_map s j)) c i → chunk_verdict s ≡ Err (BadMap i)
   unfolding chunk_verdict bad_map
   map-verdict i l h = rw (linked-none l, le-ltb c c (omega arith), lowest-found (λ j. not (good_map s j)) c i h, lt-ltb i c h.0)
 
-  shared-verdict : (i j : ℕ) → PastRow5 s → LowestOf (contested s) c j → first_claim s j ≡ i → chunk_verdict s ≡ Refused (Shared i j)
+  shared-verdict : (i j : ℕ) → PastRow5 s → LowestOf (contested s) c j → first_claim s j ≡ i → chunk_verdict s ≡ Err (Shared i j)
   unfolding chunk_verdict double_claim
   shared-verdict i j f h e =
       rw (linked-none f.0, formed-none f, le-ltb c c (omega arith), lowest-found (contested s) c j h, lt-ltb j c h.0, e)
@@ -127,7 +126,7 @@ module _ (s : List ℕ) where
   first-is i j (inl h) = lowest-found (λ k. clash s k j) j i h
   first-is i j (inr h) = lowest-none (λ k. clash s k j) j h.1 ∙ sym h.0
 
-  pub row-refused : (r : Refusal) → Row s r → verdict s ≡ Refused r
+  pub row-refused : (r : Refusal) → Row s r → verdict s ≡ Err r
   row-refused Short h = short-verdict h
   row-refused Foreign h = foreign-verdict h.0 h.1
   row-refused Geometry h = geometry-verdict h.0 h.1 h.2

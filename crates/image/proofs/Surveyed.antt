@@ -1,4 +1,5 @@
 -- The end of the one pass: free and claimed units are N-R in all exactly where no row of 4 to 6 holds, and then the sets hold what is free.
+use Rattle.std.specs.Prelude.{Result, Ok, Err, ⊤}
 use Prim.Native.Nat.{ℕ, ◌+◌, ◌-◌, ◌*◌, ◌<◌}
 use mathlib.Core.Path.{◌≡◌, refl, ap, ap₂, sym, subst, ◌∙◌}
 use mathlib.Core.Bool.{Bool, true, false, not, ◌&&◌, ◌||◌, false≢true}
@@ -26,8 +27,6 @@ use Rattle.layout.proofs.Limits.{units-high, maps-few, unit-below}
 use Rattle.layout.specs.declared.Shape.{Shape}
 use Rattle.layout.specs.Layout.{X, is_unit, shape_of, link_of}
 use Rattle.layout.specs.Shaped.{Limits, Shaped, map_of, unit_words_of}
-use Rattle.image.specs.declared.Verdict.{Verdict}
-use Rattle.image.specs.declared.Verdict.TheVariants.{Refused, Passed}
 use Rattle.image.specs.Soundness.{leading, mapped, units_of}
 use Rattle.image.specs.Verdicts.{good_link, good_map, clash, chunk_verdict, well_formed}
 use Rattle.image.specs.Free.{free_unit, free_map, free_units, held_units}
@@ -40,6 +39,7 @@ use Rattle.image.proofs.SoundLaws.{ChunksTested, chunks-tested, chunks-passed}
 use Rattle.image.proofs.Naming.{names, named-any}
 use Rattle.image.proofs.Surveying.{claims-absent, claims-named, form-absent, form-named}
 use Rattle.image.proofs.Room.{free_unit-below, free_map-below, units-many, free-and-held-units, free-unheld}
+use Rattle.layout.specs.declared.Refusal.{Refusal}
 
 -- ---- what is claimed, and what is held
 
@@ -192,13 +192,13 @@ module _ (s : List ℕ) (lim : Limits (shape_of s)) where
 
 -- ---- what `survey_words` owes at its returns, and `survey`
 
-passed-no : (v : Verdict) → (v ≡ Passed → ⊥) → false ≡ passed v
-passed-no Passed n = absurd (n refl)
-passed-no (Refused r) n = refl
+passed-no : (v : Result ⊤ Refusal) → (v ≡ Ok tt → ⊥) → false ≡ passed v
+passed-no (Ok tt) n = absurd (n refl)
+passed-no (Err r) n = refl
 
-pub passed-yes : (v : Verdict) → passed v ≡ true → v ≡ Passed
-passed-yes Passed e = refl
-passed-yes (Refused r) e = absurd (false≢true e)
+pub passed-yes : (v : Result ⊤ Refusal) → passed v ≡ true → v ≡ Ok tt
+passed-yes (Ok tt) e = refl
+passed-yes (Err r) e = absurd (false≢true e)
 
 limits-said : (s : List ℕ) (g : Shape) → Shaped s g → Limits (shape_of s)
 limits-said s g h = subst Limits h.same h.limits

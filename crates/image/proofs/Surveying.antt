@@ -1,4 +1,5 @@
 -- Laws of the one pass over the chunks: the words of a map put in, and what one chunk more claims.
+use Rattle.std.specs.Prelude.{Option, Some, None}
 use Prim.Native.Nat.{ℕ, ◌+◌, ◌*◌, ◌<◌, ◌≤◌}
 use mathlib.Core.Path.{◌≡◌, refl, ap, sym, subst, ◌∙◌}
 use mathlib.Core.Bool.{Bool, true, false, not, ◌&&◌, ◌||◌, or-false, or_assoc, cond}
@@ -18,11 +19,11 @@ use Rattle.search.proofs.Joined.{joined-last}
 use Rattle.bitset.specs.Bits.{bit_set, inserted, words_for}
 use Rattle.bitset.proofs.BitSets.{bit_set-ext, length_inserted, inserted-set}
 use Rattle.layout.specs.declared.Shape.{Shape}
-use Rattle.layout.specs.Layout.{X, max_chunk_units, is_unit, shape_of, link_of}
+use Rattle.layout.specs.Layout.{X, is_unit, shape_of, link_of}
 use Rattle.layout.specs.Shaped.{Shaped, map_of, unit_words_of}
 use Rattle.image.specs.Soundness.{leading, mapped}
 use Rattle.image.specs.Verdicts.{good_link, size_fits}
-use Rattle.image.specs.Survey.{has_bit, claimed_in, claimed_by, names_of, form_by, passable_map, passable, bad_chunk, taken, units_taken, maps_taken}
+use Rattle.image.specs.Survey.{has_bit, claimed_in, claimed_by, names_of, form_by, passable_map, passable, taken, units_taken, maps_taken}
 use Rattle.image.proofs.Chunks.{form-empty, form-held, absent-link, named-link, length-unit_words, mapped-named, unmapped-absent}
 use Rattle.image.proofs.Leading.{leading-prefix, length-leading, leading-more, leading-stop, leading_end}
 use Rattle.image.proofs.MapWords.{length-units_in}
@@ -151,46 +152,54 @@ claims-more s i = rw (add-one i, joined-last (claimed_by s) i) (length-append (j
 
 -- ---- what `put_claims` owes at each of its returns, where the code has the chunk's entry k and the count h of what it claims
 
+-- how many words chunk i claims, or nothing of a chunk that is not passable
+abbrev claim_count : List ℕ → ℕ → Option ℕ
+claim_count s i = cond (passable s i) (Some (length (claimed_by s i))) None
+
 -- its promises on chunk i, of the answer r and the sets it left, which have n and m words
-abbrev Put : List ℕ → ℕ → ℕ → ℕ → ℕ → List ℕ → List ℕ → Type 0
+abbrev Put : List ℕ → ℕ → ℕ → ℕ → Option ℕ → List ℕ → List ℕ → Type 0
 Put s i n m r units maps =
-    (r ≡ cond (passable s i) (length (claimed_by s i)) bad_chunk)
+    (r ≡ claim_count s i)
     × ((passable s i ≡ true → units ≡ bit_set (units_taken s (i + 1)) n)
     × (passable s i ≡ true → maps ≡ bit_set (maps_taken s (i + 1)) m))
 
--- so that answer is given of just the chunks that are not good
-module _ (s : List ℕ) (i r : ℕ) (e : r ≡ cond (passable s i) (length (claimed_by s i)) bad_chunk) where
-  good-count : passable s i ≡ true → r ≡ length (claimed_by s i)
-  good-count g = e ∙ cond-true (passable s i) (length (claimed_by s i)) bad_chunk g
+-- so a count is answered of just the chunks that are passable
+pub put-bad : (s : List ℕ) (i : ℕ) → None ≡ claim_count s i → passable s i ≡ false
+put-bad s i e = is_false (passable s i) (λ g.
+    let q : None ≡ Some (length (claimed_by s i)) = e ∙ cond-true (passable s i) _ None g in
+    let z : ◌≡◌ {A = ℕ} 0 1 = cc in absurd (omega arith))
 
-  pub put-few : passable s i ≡ true → r ≤ (shape_of s).p
-  put-few g = omega (arith, good-count g, length-claims s i)
+module _ (s : List ℕ) (i r : ℕ) (e : Some r ≡ claim_count s i) where
+  pub put-good : passable s i ≡ true
+  put-good = is_true (passable s i) (λ g.
+      let q : Some r ≡ None = e ∙ cond-false (passable s i) _ None g in
+      let z : ◌≡◌ {A = ℕ} 0 1 = cc in absurd (omega arith))
 
-  pub put-bad : (shape_of s).p ≤ max_chunk_units → r ≡ bad_chunk → passable s i ≡ false
-  put-bad p b = is_false (passable s i) (λ g. absurd (omega (arith, put-few g)))
+  good-count : r ≡ length (claimed_by s i)
+  good-count = let q : Some r ≡ Some (length (claimed_by s i)) = e ∙ cond-true (passable s i) _ None put-good in cc
 
-  pub put-good : (r ≡ bad_chunk → ⊥) → passable s i ≡ true
-  put-good n = is_true (passable s i) (λ g. n (e ∙ cond-false (passable s i) (length (claimed_by s i)) bad_chunk g))
+  pub put-few : r ≤ (shape_of s).p
+  put-few = omega (arith, good-count, length-claims s i)
 
-  pub put_count : passable s i ≡ true → length (joined (claimed_by s) (below (i + 1))) ≡ length (joined (claimed_by s) (below i)) + r
-  put_count g = claims-more s i ∙ omega (arith, good-count g)
+  pub put_count : length (joined (claimed_by s) (below (i + 1))) ≡ length (joined (claimed_by s) (below i)) + r
+  put_count = claims-more s i ∙ omega (arith, good-count)
 
-put-none-good : (s : List ℕ) (i n m : ℕ) (units maps : List ℕ) → passable s i ≡ false → Put s i n m bad_chunk units maps
-put-none-good s i n m units maps h =
-    (sym (cond-false (passable s i) (length (claimed_by s i)) bad_chunk h), (λ t. contradict t h, λ t. contradict t h))
+pub put-refused : (s : List ℕ) (i n m : ℕ) (units maps : List ℕ) → passable s i ≡ false → Put s i n m None units maps
+put-refused s i n m units maps h =
+    (sym (cond-false (passable s i) _ None h), (λ t. contradict t h, λ t. contradict t h))
 
-module _ (s : List ℕ) (i n m k : ℕ) (l : k ≡ link_of s i) (units maps : List ℕ) where
-  pub put-absent : k ≡ X → units ≡ bit_set (units_taken s i) n → maps ≡ bit_set (maps_taken s i) m
-      → Put s i n m 0 units maps
+module _ (s : List ℕ) (i k : ℕ) (l : k ≡ link_of s i) where
+  pub put-absent : (n m : ℕ) (units maps : List ℕ) → k ≡ X → units ≡ bit_set (units_taken s i) n → maps ≡ bit_set (maps_taken s i) m
+      → Put s i n m (Some 0) units maps
   unfolding member any
-  put-absent x u v =
+  put-absent n m units maps x u v =
       let e : link_of s i ≡ X = sym l ∙ x in
       let none = claims-absent s i e in
       let no_name = names-absent s i e in
       let good = and_intro (good_link s i) (passable_map s i) (absent-link s i e) (form-absent s i e) in
       let units-more = taken_more (is_unit (shape_of s)) (claimed_by s) i in
       let maps-more = taken_more (λ j. ltb j (shape_of s).m) (names_of s) i in (
-        sym (cond-true (passable s i) (length (claimed_by s i)) bad_chunk good ∙ ap length none),
+        sym (cond-true (passable s i) _ None good ∙ ap (λ (us : List ℕ). Some (length us)) none),
         (
           λ t. u ∙ bit_set-ext _ _ n (λ y h. sym (units-more y ∙ rw none (or-false (units_taken s i y)))),
           λ t. v ∙ bit_set-ext _ _ m (λ y h. sym (maps-more y ∙ rw no_name (or-false (maps_taken s i y)))),
@@ -201,43 +210,43 @@ module _ (s : List ℕ) (i n m k : ℕ) (l : k ≡ link_of s i) (units maps : Li
     named : link_of s i ≡ X → ⊥
     named w = x (l ∙ w)
 
-    pub put-high : (shape_of s).m ≤ k → Put s i n m bad_chunk units maps
-    put-high b = put-none-good s i n m units maps
-        (and-false-left (good_link s i) (passable_map s i) (named-link s i named ∙ le-ltb (link_of s i) (shape_of s).m (omega arith)))
+    pub put-high : (shape_of s).m ≤ k → passable s i ≡ false
+    put-high b = and-false-left (good_link s i) (passable_map s i) (named-link s i named ∙ le-ltb (link_of s i) (shape_of s).m (omega arith))
 
     module _ (h : ℕ) (e : h ≡ length (claimed_in s k)) where
-      bad-form : passable_map s i ≡ false → Put s i n m bad_chunk units maps
-      bad-form b = put-none-good s i n m units maps (and-false-right (good_link s i) (passable_map s i) b)
+      bad-form : passable_map s i ≡ false → passable s i ≡ false
+      bad-form b = and-false-right (good_link s i) (passable_map s i) b
 
       form : passable_map s i ≡ form_by (has_bit (shape_of s)) (shape_of s) (map_of s k)
       form = form-named s i named ∙ ap (λ (j : ℕ). form_by (has_bit (shape_of s)) (shape_of s) (map_of s j)) (sym l)
 
-      pub put-empty : h ≡ 0 → Put s i n m bad_chunk units maps
+      pub put-empty : h ≡ 0 → passable s i ≡ false
       put-empty z = bad-form (form ∙ form-empty (has_bit (shape_of s)) (shape_of s) (map_of s k) h e z)
 
       module _ (z : h ≡ 0 → ⊥) where
         rest-size : passable_map s i ≡ (all (eqb X) (drop h (unit_words_of s k)) && size_fits (shape_of s) h (map_of s k))
         rest-size = form ∙ form-held (has_bit (shape_of s)) (shape_of s) (map_of s k) h e z
 
-        pub put_rest : all (eqb X) (drop h (unit_words_of s k)) ≡ false → Put s i n m bad_chunk units maps
+        pub put_rest : all (eqb X) (drop h (unit_words_of s k)) ≡ false → passable s i ≡ false
         put_rest b = bad-form (rest-size ∙ and-false-left _ (size_fits (shape_of s) h (map_of s k)) b)
 
-        pub put-size : size_fits (shape_of s) h (map_of s k) ≡ false → Put s i n m bad_chunk units maps
+        pub put-size : size_fits (shape_of s) h (map_of s k) ≡ false → passable s i ≡ false
         put-size b = bad-form (rest-size ∙ and-false-right (all (eqb X) (drop h (unit_words_of s k))) _ b)
 
-        pub put-named : k < (shape_of s).m → all (eqb X) (drop h (unit_words_of s k)) ≡ true → size_fits (shape_of s) h (map_of s k) ≡ true
+        pub put-named : (n m : ℕ) (units maps : List ℕ) → k < (shape_of s).m
+            → all (eqb X) (drop h (unit_words_of s k)) ≡ true → size_fits (shape_of s) h (map_of s k) ≡ true
             → units ≡ bit_set (with_all (units_taken s i) (claimed_in s k)) n
             → maps ≡ bit_set (put (maps_taken s i) k true) m
-            → Put s i n m h units maps
+            → Put s i n m (Some h) units maps
         unfolding with_all member any
-        put-named b a f u v =
+        put-named n m units maps b a f u v =
             let us : claimed_by s i ≡ claimed_in s k = claims-named s i named ∙ ap (claimed_in s) (sym l) in
             let ks : names_of s i ≡ k ∷ [] = names-named s i named ∙ ap (λ (y : ℕ). y ∷ []) (sym l) in
             let good = and_intro (good_link s i) (passable_map s i) (named-link s i named ∙ lt-ltb (link_of s i) (shape_of s).m (omega arith))
             (rest-size ∙ and_intro (all (eqb X) (drop h (unit_words_of s k))) (size_fits (shape_of s) h (map_of s k)) a f) in
             let units-more = taken_more (is_unit (shape_of s)) (claimed_by s) i in
             let maps-more = taken_more (λ j. ltb j (shape_of s).m) (names_of s) i in (
-              sym (cond-true (passable s i) (length (claimed_by s i)) bad_chunk good ∙ ap length us ∙ sym e),
+              sym (cond-true (passable s i) _ None good ∙ ap Some (ap length us ∙ sym e)),
               (
                 λ t. u ∙ bit_set-ext _ _ n (λ y q. sym (units-more y ∙ rw us)),
                 λ t. v ∙ bit_set-ext _ _ m (λ y q. put-in (maps_taken s i) k y ∙ sym (maps-more y ∙ rw (ks, or-false (eqb y k)))),

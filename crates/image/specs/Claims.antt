@@ -1,16 +1,15 @@
 -- What only the loader's inner functions and the proofs cite: the tests of a passed image one by one, and what the scan for double claims keeps.
-use Rattle.std.specs.Prelude.{ℕ, ◌+◌, ◌≤◌, ◌<◌, ◌≡◌, Bool, true, false, not, ◌&&◌, List, length, eqb, ltb}
+use Rattle.std.specs.Prelude.{ℕ, ◌+◌, ◌≤◌, ◌<◌, ◌≡◌, Bool, true, false, not, ◌&&◌, List, length, eqb, ltb, Result, Ok, ⊤}
 use Rattle.search.specs.Search.{below, all, any, member, distinct}
 use Rattle.search.specs.Sets.{without}
 use Rattle.bitset.specs.Bits.{bit_set}
 use Rattle.layout.specs.Layout.{first_edition, is_unit, trailer_bytes, shape_of, known, fitting, link_of}
 use Rattle.layout.specs.Shaped.{unit_words_of}
-use Rattle.image.specs.declared.Verdict.{Verdict}
-use Rattle.image.specs.declared.Verdict.TheVariants.{Passed}
 use Rattle.image.specs.Soundness.{leading, units_of}
 use Rattle.image.specs.Verdicts.{good_link, good_map, clash, contested, double_claim, chunk_verdict}
 use Rattle.image.specs.Free.{free_unit, free_map}
 use Rattle.image.specs.Loading.{unit_set_words, map_set_words}
+use Rattle.layout.specs.declared.Refusal.{Refusal}
 
 -- no row of 1 to 6 holds: what the verdict tests, for each chunk
 pub record Tested (s : List ℕ) : Type 0 where
@@ -52,7 +51,7 @@ pub record Scanned (s : List ℕ) (at : ℕ) (units maps : List ℕ) : Type 0 wh
   pub maps-left : (at ≡ (shape_of s).c → maps ≡ bit_set (free_map s) map_set_words)
 
 -- rows 4 to 6 gave this verdict, and where it is that the image passed, the sets hold what is free
-pub record Judged (s : List ℕ) (v : Verdict) (units maps : List ℕ) : Type 0 where
+pub record Judged (s : List ℕ) (v : Result ⊤ Refusal) (units maps : List ℕ) : Type 0 where
   pub right : v ≡ chunk_verdict s
-  pub units-left : v ≡ Passed → units ≡ bit_set (free_unit s) unit_set_words
-  pub maps-left : v ≡ Passed → maps ≡ bit_set (free_map s) map_set_words
+  pub units-left : v ≡ Ok tt → units ≡ bit_set (free_unit s) unit_set_words
+  pub maps-left : v ≡ Ok tt → maps ≡ bit_set (free_map s) map_set_words

@@ -1,16 +1,16 @@
 -- What the one pass over the chunks keeps and answers. Only the loader's inner functions and the proofs cite it.
-use Rattle.std.specs.Prelude.{ℕ, ◌+◌, ◌*◌, ◌≡◌, Bool, true, false, not, ◌&&◌, ◌||◌, cond, List, [], ◌∷◌, length, ltb}
+use Rattle.std.specs.Prelude.{ℕ, ◌*◌, ◌≡◌, Bool, true, false, not, ◌&&◌, ◌||◌, cond, List, [], ◌∷◌, length, ltb, Result, ⊤}
 use Rattle.search.specs.Search.{below, joined}
 use Rattle.search.specs.Sets.{with_all}
 use Rattle.bitset.specs.Bits.{bit_set, words_for}
 use Rattle.layout.specs.declared.Shape.{Shape}
-use Rattle.layout.specs.Layout.{max_chunk_units, is_unit, shape_of, words_of, unit_words, link_of}
+use Rattle.layout.specs.Layout.{is_unit, shape_of, words_of, unit_words, link_of}
 use Rattle.layout.specs.Shaped.{unit_words_of}
-use Rattle.image.specs.declared.Verdict.{Verdict}
 use Rattle.image.specs.Soundness.{leading, mapped}
 use Rattle.image.specs.Verdicts.{good_link, well_formed, size_fits, chunk_verdict}
 use Rattle.image.specs.Free.{free_unit, free_map}
 use Rattle.image.specs.Answers.{if_sound}
+use Rattle.layout.specs.declared.Refusal.{Refusal}
 
 -- ---- one chunk
 
@@ -42,10 +42,6 @@ passable_map s i = let g = shape_of s in not (mapped s i) || form_by (has_bit g)
 abbrev pub passable : List ℕ → ℕ → Bool
 passable s i = good_link s i && passable_map s i
 
--- the answer for any other chunk, in place of how many words it claims: none claims so many
-abbrev pub bad_chunk : ℕ
-bad_chunk = max_chunk_units + 1
-
 -- ---- the chunks below j
 
 -- the numbers that are not free: those of which f does not hold, and those of a list
@@ -62,7 +58,7 @@ maps_taken s j = taken (λ k. ltb k (shape_of s).m) (joined (names_of s) (below 
 -- ---- all chunks
 
 -- no row of 4 to 6 holds
-abbrev pub passed : Verdict → Bool
+abbrev pub passed : Result ⊤ Refusal → Bool
 passed v = if_sound v (λ r. false) true
 
 -- the pass says yes exactly where no row of 4 to 6 holds, and then the sets, of so many words each, hold what is free; where it says no, nothing is said of

@@ -1,15 +1,12 @@
 -- The verdict on any bytes: rows 1 to 6 of the table of refusals, "lowest number wins", computed.
-use Rattle.std.specs.Prelude.{ℕ, Bool, not, ◌&&◌, ◌||◌, cond, List, length, get_or, drop, eqb, ltb, leb}
+use Rattle.std.specs.Prelude.{ℕ, Bool, not, ◌&&◌, ◌||◌, cond, List, length, get_or, drop, eqb, ltb, leb, Result, Ok, Err, ⊤}
 use Rattle.search.specs.Search.{below, all, any, distinct, disjoint, lowest}
 use Rattle.layout.specs.declared.Refusal.TheVariants.{Foreign, BadLink, BadMap, Shared}
-use Rattle.layout.specs.declared.Trailer.{Trailer}
-use Rattle.layout.specs.declared.Trailer.TheVariants.{Fits, Refused as TrailerRefused}
 use Rattle.layout.specs.Trailer.{trailer_outcome}
 use Rattle.layout.specs.declared.Shape.{Shape}
 use Rattle.layout.specs.Layout.{X, first_edition, units_for, is_unit, head, unit_words, words_of, trailer_bytes, known_as, shape_of, link_of}
-use Rattle.image.specs.declared.Verdict.{Verdict}
-use Rattle.image.specs.declared.Verdict.TheVariants.{Refused, Passed}
 use Rattle.image.specs.Soundness.{leading, mapped, units_of}
+use Rattle.layout.specs.declared.Refusal.{Refusal}
 
 -- ---- row 4: "entry neither X nor below M", "lowest such chunk"
 
@@ -60,21 +57,21 @@ first_claim s j = lowest (λ i. clash s i j) j
 -- ---- the verdict
 
 -- rows 4 to 6, of an image whose trailer passes: each row is asked of all chunks before the next
-unfoldable pub chunk_verdict : List ℕ → Verdict
+unfoldable pub chunk_verdict : List ℕ → Result ⊤ Refusal
 chunk_verdict s =
     let c = (shape_of s).c in
     let j = double_claim s in
-    let sharing = cond (ltb j c) (Refused (Shared (first_claim s j) j)) Passed in
-    let maps = cond (ltb (bad_map s) c) (Refused (BadMap (bad_map s))) sharing in
-    cond (ltb (bad_link s) c) (Refused (BadLink (bad_link s))) maps
+    let sharing = cond (ltb j c) (Err (Shared (first_claim s j) j)) (Ok tt) in
+    let maps = cond (ltb (bad_map s) c) (Err (BadMap (bad_map s))) sharing in
+    cond (ltb (bad_link s) c) (Err (BadLink (bad_link s))) maps
 
 -- a trailer that is refused, or what is said of the rest
-abbrev pub after_trailer : Trailer → Verdict → Verdict
-after_trailer (Fits g) v = v
-after_trailer (TrailerRefused r) v = Refused r
+abbrev pub after_trailer : Result Shape Refusal → Result ⊤ Refusal → Result ⊤ Refusal
+after_trailer (Ok g) v = v
+after_trailer (Err r) v = Err r
 
 -- rows 1 to 6
-unfoldable pub verdict : List ℕ → Verdict
+unfoldable pub verdict : List ℕ → Result ⊤ Refusal
 verdict s = after_trailer (trailer_outcome s) (chunk_verdict s)
 
 -- under 32 bytes, or read as edition 1: then 01's verdict is load's
@@ -82,5 +79,5 @@ abbrev pub as_first : List ℕ → Bool
 as_first s = ltb (length s) (trailer_bytes first_edition) || known_as first_edition s
 
 -- 01's own verdict, of the last 32 bytes alone: what "Edition 1 code" gives. 2 is "first four trailer bytes or version wrong".
-unfoldable pub first_verdict : List ℕ → Verdict
-first_verdict s = cond (as_first s) (verdict s) (Refused Foreign)
+unfoldable pub first_verdict : List ℕ → Result ⊤ Refusal
+first_verdict s = cond (as_first s) (verdict s) (Err Foreign)

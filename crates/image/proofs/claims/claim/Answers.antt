@@ -13,32 +13,15 @@ use Rattle.image.proofs.claims.claim.Goals as goal
 
 pub returns-then-w : goal.returns-then-w
 returns-then-w c =
-    claimed-absent c.args.image.now c.args.j c.link-w.result c.link-w.ensures c.if-w.true c.args.units.now c.args.maps.now c.requires.units_value c.requires.maps_value
-
-pub held_count-count-requires : goal.held_count-count-requires
-held_count-count-requires c =
-    let w = c.link-w.ensures in
-    let m = ap (λ (g : Shape). g.m) c.requires.shaped.same in
-    let h = named-below c.args.image.now c.args.j (λ e. c.if-w.false (omega arith)) c.requires.j_lt_c.1 in record {
-      shaped = c.requires.shaped;
-      k_lt_m = omega arith;
-    }
-
-pub claim_units-requires : goal.claim_units-requires
-claim_units-requires c =
-    let w = c.link-w.ensures in
-    let m = ap (λ (g : Shape). g.m) c.requires.shaped.same in
-    let h = named-below c.args.image.now c.args.j (λ e. c.if-w.false (omega arith)) c.requires.j_lt_c.1 in record {
-      shaped = c.requires.shaped;
-      k_lt_m = (omega arith, c.held_count-count.ensures);
-    }
+    claimed-absent c.args.image.now.bytes.now c.args.j c.link-w.result c.link-w.ensures c.if-w.true c.args.units.now c.args.maps.now
+    c.requires.units_value c.requires.maps_value
 
 pub returns-then-contains : goal.returns-then-contains
 returns-then-contains c =
-    let s = c.args.image.now in
+    let s = c.args.image.now.bytes.now in
     let j = c.args.j in
     let w = c.link-w.ensures in
-    let m = ap (λ (g : Shape). g.m) c.requires.shaped.same in
+    let m = ap (λ (g : Shape). g.m) c.args.image.now.shaped.same in
     let h = named-below s j (λ e. c.if-w.false (omega arith)) c.requires.j_lt_c.1 in
     let k = c.link-w.result in
     let low : k < 64 * 5 = omega arith in
@@ -50,10 +33,10 @@ returns-then-contains c =
 
 pub returns : goal.returns
 returns c =
-    let s = c.args.image.now in
+    let s = c.args.image.now.bytes.now in
     let j = c.args.j in
     let w = c.link-w.ensures in
-    let m = ap (λ (g : Shape). g.m) c.requires.shaped.same in
+    let m = ap (λ (g : Shape). g.m) c.args.image.now.shaped.same in
     let h = named-below s j (λ e. c.if-w.false (omega arith)) c.requires.j_lt_c.1 in
     let k = c.link-w.result in
     let low : k < 64 * 5 = omega arith in

@@ -1,8 +1,8 @@
 -- `image::claims::claim_units` meets its contract. The first j units of the map are out of the set, and the others are still to be taken.
-use Prim.Native.Nat.{ℕ, ◌-◌, ◌≤◌}
+use Prim.Native.Nat.{ℕ}
 use mathlib.Core.Bool.{Bool, ◌&&◌}
 use mathlib.Core.Path.{◌≡◌}
-use lib.ListN.{length, take}
+use lib.ListN.{take}
 use Rattle.search.specs.Search.{all, distinct}
 use Rattle.search.specs.Sets.{without}
 use Rattle.bitset.specs.Bits.{bit_set}
@@ -13,10 +13,6 @@ use Rattle.image.proofs.claims.claim_units.Given as goal
 
 abbrev pub invariant-loop-j : goal.invariant-loop-j
 invariant-loop-j l =
-    (l.j ≤ l.count) × (length l.units ≡ length l.initial.units)
-    × ((f : ℕ → Bool) → l.initial.units ≡ bit_set f unit_set_words
-    → (l.units ≡ bit_set (without f (take l.j (held_in l.image l.k))) unit_set_words)
-    × ((all f (held_in l.image l.k) && distinct (held_in l.image l.k)) ≡ rest f (held_in l.image l.k) l.j))
-
-abbrev pub decreases-loop-j : goal.decreases-loop-j
-decreases-loop-j l = l.count - l.j
+    let us = held_in l.image.bytes.now l.k in
+    (f : ℕ → Bool) → l.initial.units ≡ bit_set f unit_set_words
+    → (l.units ≡ bit_set (without f (take l.j us)) unit_set_words) × ((all f us && distinct us) ≡ rest f us l.j)

@@ -1,5 +1,4 @@
 -- `image::clashes::holds` meets its contract: the words from i on are still to be compared.
-use Prim.Native.Nat.{◌-◌, ◌≤◌}
 use mathlib.Core.Path.{◌≡◌}
 use lib.ListN.{drop}
 use lib.Dec.{eqb}
@@ -9,7 +8,5 @@ use Rattle.image.proofs.clashes.holds.Given as goal
 
 abbrev pub invariant-loop-i : goal.invariant-loop-i
 invariant-loop-i l =
-    (l.i ≤ l.count) × (member l.u (held_in l.image l.k) ≡ any (eqb l.u) (drop l.i (held_in l.image l.k)))
-
-abbrev pub decreases-loop-i : goal.decreases-loop-i
-decreases-loop-i l = l.count - l.i
+    let us = held_in l.image.bytes.now l.k in
+    member l.u us ≡ any (eqb l.u) (drop l.i us)

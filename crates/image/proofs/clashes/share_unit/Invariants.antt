@@ -1,5 +1,4 @@
 -- `image::clashes::share_unit` meets its contract: the units of h from i on are still to be looked up.
-use Prim.Native.Nat.{◌-◌, ◌≤◌}
 use mathlib.Core.Path.{◌≡◌}
 use mathlib.Core.Bool.{not}
 use lib.ListN.{drop}
@@ -9,7 +8,6 @@ use Rattle.image.proofs.clashes.share_unit.Given as goal
 
 abbrev pub invariant-loop-i : goal.invariant-loop-i
 invariant-loop-i l =
-    (l.i ≤ l.end) × (not (disjoint (held_in l.image l.k) (held_in l.image l.h)) ≡ any (λ y. member y (held_in l.image l.k)) (drop l.i (held_in l.image l.h)))
-
-abbrev pub decreases-loop-i : goal.decreases-loop-i
-decreases-loop-i l = l.end - l.i
+    let us = held_in l.image.bytes.now l.k in
+    let vs = held_in l.image.bytes.now l.h in
+    not (disjoint us vs) ≡ any (λ y. member y us) (drop l.i vs)

@@ -1,5 +1,5 @@
 -- `image::scan::first_bad_link` meets its contract: what is left to search from chunk i on is the whole search.
-use Prim.Native.Nat.{◌-◌, ◌≤◌}
+use Prim.Native.Nat.{◌-◌}
 use mathlib.Core.Path.{◌≡◌}
 use mathlib.Core.Bool.{not}
 use Rattle.search.specs.Search.{lowest_from}
@@ -8,7 +8,5 @@ use Rattle.image.proofs.scan.first_bad_link.Given as goal
 
 abbrev pub invariant-loop-i : goal.invariant-loop-i
 invariant-loop-i l =
-    (l.i ≤ l.c) × (bad_link l.image ≡ lowest_from (λ k. not (good_link l.image k)) l.i (l.c - l.i))
-
-abbrev pub decreases-loop-i : goal.decreases-loop-i
-decreases-loop-i l = l.c - l.i
+    let s = l.image.bytes.now in
+    bad_link s ≡ lowest_from (λ k. not (good_link s k)) l.i (l.c - l.i)

@@ -6,12 +6,12 @@ use Rattle.search.specs.Search.{below, joined}
 use lib.ListN.{length}
 use mathlib.Core.Path.{◌≡◌}
 use mathlib.Core.Bool.{true}
-use Prim.Native.Nat.{ℕ, ◌-◌, ◌*◌, ◌≤◌, ◌<◌}
+use Prim.Native.Nat.{ℕ, ◌*◌, ◌≤◌, ◌<◌}
 use Rattle.loader.proofs.survey.survey_words.Given as goal
 
 abbrev pub invariant-loop-i : goal.invariant-loop-i
-invariant-loop-i l = (l.i ≤ l.c) × (l.units ≡ bit_set (units_taken l.image l.i) (words_for l.g.n)) × (l.maps ≡ bit_set (maps_taken l.image l.i) (words_for l.g.m))
-    × (l.claimed ≡ length (joined (claimed_by l.image) (below l.i))) × (l.claimed ≤ max_chunk_units * l.i) × ((y : ℕ) → y < l.i → passable l.image y ≡ true)
-
-abbrev pub decreases-loop-i : goal.decreases-loop-i
-decreases-loop-i l = l.c - l.i
+invariant-loop-i l =
+    let s = l.image.bytes.now in
+    let g = l.image.shape in
+    (l.units ≡ bit_set (units_taken s l.i) (words_for g.n)) × (l.maps ≡ bit_set (maps_taken s l.i) (words_for g.m))
+    × (l.claimed ≡ length (joined (claimed_by s) (below l.i))) × (l.claimed ≤ max_chunk_units * l.i) × ((y : ℕ) → y < l.i → passable s y ≡ true)
