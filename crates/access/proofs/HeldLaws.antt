@@ -1,4 +1,5 @@
 -- What `held` hands back, by what the companion call answers.
+use Rattle.std.specs.Prelude.{Result, Ok, Err, ⊤}
 use Prim.Native.Nat.{ℕ, ◌+◌, ◌*◌, ◌<◌, ◌≤◌}
 use mathlib.Core.Path.{◌≡◌, refl, ap, sym, ◌∙◌}
 use mathlib.Core.Bool.{Bool, true, false, cond}
@@ -15,8 +16,6 @@ use Rattle.layout.specs.declared.Refusal.TheVariants.{Range}
 use Rattle.layout.specs.Layout.{is_unit, head, map_words, shape_of, link_of, map_word_place}
 use Rattle.layout.specs.Shaped.{unit_words_of}
 use Rattle.layout.proofs.Limits.{fitting-length, map-within, map-words}
-use Rattle.image.specs.declared.Verdict.{Verdict}
-use Rattle.image.specs.declared.Verdict.TheVariants.{Passed, Refused as Unsound}
 use Rattle.image.specs.Soundness.{mapped, units_of, leading}
 use Rattle.image.specs.Verdicts.{verdict}
 use Rattle.image.specs.Claims.{Tested}
@@ -24,9 +23,9 @@ use Rattle.image.specs.Answers.{if_sound}
 use Rattle.image.proofs.SoundLaws.{passed-tested}
 use Rattle.image.proofs.Leading.{leading_at}
 use Rattle.image.proofs.Chunks.{get_or-unit_words, mapped-named, named-below, units-mapped, length-units}
-use Rattle.access.specs.declared.Status.TheVariants.{Answered, Refused as Denied}
 use Rattle.access.specs.Parts.{held_status, held_words, held_part}
 use Rattle.access.specs.Holding.{Holds}
+use Rattle.layout.specs.declared.Refusal.{Refusal}
 
 -- a number read in a part of a list
 number-part : (w : ℕ) (s : List ℕ) (at n k : ℕ) → k + w ≤ n → number w (take n (drop at s)) k ≡ number w s (at + k)
@@ -35,20 +34,20 @@ number-part w s at n k h = number-ext w (take n (drop at s)) s k (at + k) (λ j 
 
 -- ---- what the companion's answer says
 
-in-range : (low : Bool) → cond low Answered (Denied Range) ≡ Answered → low ≡ true
+in-range : (low : Bool) → cond {A = Result ⊤ Refusal} low (Ok tt) (Err Range) ≡ Ok tt → low ≡ true
 in-range true e = refl
 in-range false e = let z : ◌≡◌ {A = ℕ} 0 1 = cc in absurd (omega arith)
 
-pub answered : (s : List ℕ) (i : ℕ) → held_status s i ≡ Answered → Tested s × (i < (shape_of s).c)
+pub answered : (s : List ℕ) (i : ℕ) → held_status s i ≡ Ok tt → Tested s × (i < (shape_of s).c)
 answered s i e = at (verdict s) refl e
   where
-    at : (v : Verdict) → verdict s ≡ v → if_sound v Denied (cond (ltb i (shape_of s).c) Answered (Denied Range)) ≡ Answered → Tested s × (i < (shape_of s).c)
-    at (Unsound r) p h = let z : ◌≡◌ {A = ℕ} 0 1 = cc in absurd (omega arith)
-    at Passed p h = (passed-tested s p, ltb-true i (shape_of s).c (in-range (ltb i (shape_of s).c) h))
+    at : (v : Result ⊤ Refusal) → verdict s ≡ v → if_sound v Err (cond {A = Result ⊤ Refusal} (ltb i (shape_of s).c) (Ok tt) (Err Range)) ≡ Ok tt → Tested s × (i < (shape_of s).c)
+    at (Err r) p h = let z : ◌≡◌ {A = ℕ} 0 1 = cc in absurd (omega arith)
+    at (Ok tt) p h = (passed-tested s p, ltb-true i (shape_of s).c (in-range (ltb i (shape_of s).c) h))
 
 -- ---- a mapped chunk, where the companion answers
 
-module _ (s : List ℕ) (i : ℕ) (e : held_status s i ≡ Answered) (m : mapped s i ≡ true) where
+module _ (s : List ℕ) (i : ℕ) (e : held_status s i ≡ Ok tt) (m : mapped s i ≡ true) where
   abbrev start : ℕ
   start = 8 * map_word_place (shape_of s) (link_of s i) (head (shape_of s))
 

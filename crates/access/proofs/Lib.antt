@@ -1,6 +1,5 @@
 pub mod RangeLaws
 pub mod PieceLaws
-pub mod AnswerLaws
 pub mod PartLaws
 pub mod TilingLaws
 pub mod HeldLaws

@@ -1,4 +1,6 @@
 -- Laws of a chunk's held words: where they stand, and which answer each finding of the code gives.
+use Rattle.std.specs.Prelude.{Result, Ok, Err, ⊤, IfOk}
+use Rattle.std.specs.Result.{result_and, result_unwrap_or}
 use Prim.Native.Nat.{ℕ, ◌+◌, ◌*◌, ◌<◌, ◌≤◌}
 use mathlib.Core.Path.{◌≡◌, refl, ap, ◌∙◌}
 use mathlib.Core.Bool.{Bool, true, false, cond}
@@ -12,8 +14,6 @@ use Rattle.layout.specs.declared.Refusal.TheVariants.{Range}
 use Rattle.layout.specs.Layout.{X, max_image_bytes, is_unit, head, map_words, map_word_place, shape_of, link_of}
 use Rattle.layout.specs.Shaped.{Shaped, unit_words_of}
 use Rattle.layout.proofs.Limits.{map-words, map-within, image-high}
-use Rattle.image.specs.declared.Verdict.{Verdict}
-use Rattle.image.specs.declared.Verdict.TheVariants.{Passed, Refused}
 use Rattle.image.specs.Soundness.{mapped}
 use Rattle.image.specs.Verdicts.{good_link, verdict}
 use Rattle.image.specs.Claims.{held_in}
@@ -23,10 +23,8 @@ use Rattle.image.proofs.Chunks.{is_mapped, map-named, units-named}
 use Rattle.image.proofs.MapWords.{length-units_in}
 use Rattle.image.proofs.Loads.{KnownShape}
 use Rattle.access.specs.declared.Extent.{Extent}
-use Rattle.access.specs.declared.Held.{Held}
-use Rattle.access.specs.declared.Status.{Status}
-use Rattle.access.specs.declared.Status.TheVariants.{Answered, Refused as Denied}
-use Rattle.access.specs.Parts.{empty_extent, held_words, if_answered, not_held, held_on, held_of}
+use Rattle.access.specs.Parts.{empty_extent, held_words, if_answered, held_status, held_extent, held_on, held_of}
+use Rattle.layout.specs.declared.Refusal.{Refusal}
 
 -- ---- chunk i
 
@@ -53,32 +51,32 @@ module _ (s : List ℕ) (g : Shape) (i w : ℕ) (h : Shaped s g) (ew : w ≡ lin
 -- ---- the answers on chunk i
 
 -- behind the verdict on the image
-pub held-judged : (s : List ℕ) (i : ℕ) → held_of s i ≡ if_sound (verdict s) not_held (held_on s i)
-unfolding held_on
-held-judged s i = at (verdict s) (ltb i (shape_of s).c)
-  where
-    status : Verdict → Bool → Status
-    status v low = if_sound v Denied (cond low Answered (Denied Range))
+pub held-judged : (s : List ℕ) (i : ℕ) → held_of s i ≡ if_sound (verdict s) Err (held_on s i)
+held-judged s i = refl
 
-    at : (v : Verdict) (low : Bool) → ◌≡◌ {A = Held} (record { status = status v low; extent = if_answered (status v low) (held_words s i) })
-        (if_sound v not_held (cond low (record { status = Answered; extent = held_words s i }) (not_held Range)))
-    at (Refused r) low = refl
-    at Passed true = refl
-    at Passed false = refl
+-- the one answer gives the companion's answer and the place
+pub held-both : (s : List ℕ) (i : ℕ) → (result_and (held_of s i) (Ok tt) ≡ held_status s i) × (result_unwrap_or (held_of s i) empty_extent ≡ held_extent s i)
+unfolding held_on
+held-both s i = at (verdict s) (ltb i (shape_of s).c)
+  where
+    status : Result ⊤ Refusal → Bool → Result ⊤ Refusal
+    status v low = if_sound v Err (cond low (Ok tt) (Err Range))
+
+    found : Result ⊤ Refusal → Bool → Result Extent Refusal
+    found v low = if_sound v Err (cond low (Ok (held_words s i)) (Err Range))
+
+    at : (v : Result ⊤ Refusal) (low : Bool)
+        → (result_and (found v low) (Ok tt) ≡ status v low) × (result_unwrap_or (found v low) empty_extent ≡ if_answered (status v low) (held_words s i))
+    at (Err r) low = (refl, refl)
+    at (Ok tt) true = (refl, refl)
+    at (Ok tt) false = (refl, refl)
+
+-- a place within, or an empty one
+pub within-or-empty : (r : Result Extent Refusal) (n : ℕ) → IfOk r (λ e. (e.start ≤ e.end) × (e.end ≤ n))
+    → let e = result_unwrap_or r empty_extent in (e.start ≤ e.end) × (e.end ≤ n)
+within-or-empty (Ok e) n h = h
+within-or-empty (Err r) n h = (omega arith, omega arith)
 
 -- in a sound image every chunk has a good entry
 pub known-link : (s : List ℕ) (g : Shape) → KnownShape s g → (i : ℕ) → i < g.c → good_link s i ≡ true
 known-link s g k i b = k.sound.links i (omega (arith, ap (λ (h : Shape). h.c) k.shape))
-
--- where the image is not judged again
-module _ (s : List ℕ) (g : Shape) (h : Shaped s g) (i : ℕ) where
-  chunks : g.c ≡ (shape_of s).c
-  chunks = ap (λ (q : Shape). q.c) h.same
-
-  pub held_in_lem : i < g.c → (e : Extent) → e ≡ held_words s i → record { status = Answered; extent = e } ≡ held_on s i
-  unfolding held_on
-  held_in_lem b e w = rw (lt-ltb i (shape_of s).c (omega (arith, chunks)), w)
-
-  pub held_out : g.c ≤ i → not_held Range ≡ held_on s i
-  unfolding held_on
-  held_out b = rw (le-ltb i (shape_of s).c (omega (arith, chunks)))

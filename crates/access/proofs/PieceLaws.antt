@@ -17,14 +17,6 @@ pub length-pieces : (b lo hi : ℕ) → length (pieces b lo hi) ≡ piece_count 
 unfolding pieces
 length-pieces b lo hi = length-map-from (piece_of b lo hi) (first_chunk b lo) (piece_count b lo hi)
 
--- piece k, where there is one, lies in a chunk that the range touches
-pub touched : (b lo hi first count k : ℕ) → 1 ≤ b → lo < hi → first ≡ first_chunk b lo → count ≡ piece_count b lo hi → k < count
-    → ((first + k) * b < hi) × (lo < (first + k) * b + b)
-touched b lo hi first count k hb h ef ec l =
-    let up : first + k ≤ last_chunk b hi = omega arith in
-    let low : first_chunk b lo ≤ first + k = omega arith in
-    (omega (arith, mul-le-mul_right b up, div-mul-le_self (hi - 1) b), omega (arith, mul-le-mul_right b low, lt-div-mul-add {a = lo} {b = b} hb))
-
 -- ---- their bytes
 
 length-encode : (x : Piece) → length (encode x) ≡ 12
@@ -72,9 +64,8 @@ module _ (b lo hi first count : ℕ) where
 
   -- one turn
   pub store-turn : (whole out after : List ℕ) (k : ℕ) (x : Piece) → k < count → x ≡ piece_of b lo hi (first + k) → after ≡ sets out (12 * k) (encode x)
-      → whole ≡ sets out (12 * k) (rest k) → (length after ≡ length out) × (whole ≡ sets after (12 * (k + 1)) (rest (k + 1)))
-  store-turn whole out after k x h ex ea w =
-      (rw ea (length-sets out (12 * k) (encode x)), w ∙ store-more out k h ∙ rw (ea, ex))
+      → whole ≡ sets out (12 * k) (rest k) → whole ≡ sets after (12 * (k + 1)) (rest (k + 1))
+  store-turn whole out after k x h ex ea w = w ∙ store-more out k h ∙ rw (ea, ex)
 
   pub store-end : (whole out : List ℕ) (k : ℕ) → count ≤ k → whole ≡ sets out (12 * k) (rest k) → out ≡ whole
   unfolding encode_all from

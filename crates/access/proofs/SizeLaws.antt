@@ -1,4 +1,5 @@
 -- Laws of a chunk's stored size.
+use Rattle.std.specs.Prelude.{Ok, Err}
 use Prim.Native.Nat.{ℕ, ◌*◌, ◌<◌, ◌≤◌}
 use mathlib.Core.Path.{◌≡◌, refl, ap, sym, ◌∙◌}
 use mathlib.Core.List.{List}
@@ -15,7 +16,6 @@ use Rattle.image.specs.Verdicts.{verdict}
 use Rattle.image.specs.Claims.{held_in}
 use Rattle.image.specs.Answers.{if_sound}
 use Rattle.image.proofs.Chunks.{not-mapped, is_mapped, units-named}
-use Rattle.access.specs.declared.Stored.TheVariants.{Size, Refused as NotStored}
 use Rattle.access.specs.Sizes.{size_on, size_answer}
 
 -- ---- chunk i, whose entry is w
@@ -43,19 +43,6 @@ module _ (s : List ℕ) (g : Shape) (i w : ℕ) (h : Shaped s g) (ew : w ≡ lin
 -- ---- the answers on chunk i
 
 -- behind the verdict on the image
-pub size-judged : (s : List ℕ) (i : ℕ) → size_answer s i ≡ if_sound (verdict s) NotStored (size_on s i)
+pub size-judged : (s : List ℕ) (i : ℕ) → size_answer s i ≡ if_sound (verdict s) Err (size_on s i)
 unfolding size_on
 size-judged s i = refl
-
--- where the image is not judged again
-module _ (s : List ℕ) (g : Shape) (h : Shaped s g) (i : ℕ) where
-  chunks : g.c ≡ (shape_of s).c
-  chunks = ap (λ (q : Shape). q.c) h.same
-
-  pub size_in : i < g.c → (n : ℕ) → n ≡ stored_size s i → Size n ≡ size_on s i
-  unfolding size_on
-  size_in b n e = rw (lt-ltb i (shape_of s).c (omega (arith, chunks)), e)
-
-  pub size-out : g.c ≤ i → NotStored Range ≡ size_on s i
-  unfolding size_on
-  size-out b = rw (le-ltb i (shape_of s).c (omega (arith, chunks)))

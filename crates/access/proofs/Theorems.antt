@@ -1,4 +1,5 @@
 -- The theorems of this crate that a reader wants: nothing else cites them.
+use Rattle.std.specs.Prelude.{Result, Ok, Err, ⊤}
 use Prim.Native.Nat.{ℕ, ◌+◌, ◌-◌, ◌*◌, ◌/◌, ◌<◌, ◌≤◌}
 use mathlib.Core.Path.{◌≡◌, refl, ap, sym, ◌∙◌}
 use mathlib.Core.Logic.{⊎_elim}
@@ -17,8 +18,6 @@ use Rattle.layout.specs.declared.Refusal.TheVariants.{Range, Small}
 use Rattle.layout.specs.Layout.{units_for, shape_of}
 use Rattle.layout.specs.Shaped.{Limits}
 use Rattle.layout.proofs.Limits.{fitting-limits}
-use Rattle.image.specs.declared.Verdict.{Verdict}
-use Rattle.image.specs.declared.Verdict.TheVariants.{Passed, Refused as Unsound}
 use Rattle.image.specs.Soundness.{mapped, units_of}
 use Rattle.image.specs.Verdicts.{verdict}
 use Rattle.image.specs.Answers.{if_sound}
@@ -26,14 +25,10 @@ use Rattle.image.specs.Stored.{stored_size}
 use Rattle.image.proofs.SoundLaws.{passed-tested}
 use Rattle.image.proofs.Chunks.{mapped-named, units-unmapped, units-some}
 use Rattle.access.specs.declared.Piece.{Piece}
-use Rattle.access.specs.declared.Split.TheVariants.{Pieces, Refused as NotSplit}
 use Rattle.access.specs.declared.Extent.{Extent}
-use Rattle.access.specs.declared.Status.{Status}
-use Rattle.access.specs.declared.Status.TheVariants.{Answered, Refused as NotHeld}
 use Rattle.access.specs.Ranges.{chunk_bytes, good_range, first_chunk, last_chunk, pieces, pieces_of, piece_bytes, split_in, split_answer, good_piece}
 use Rattle.access.specs.Parts.{held_status, empty_extent, held_words, if_answered, part, held_part}
 use Rattle.image.proofs.Storing.{stored-unmapped, size-of-units}
-use Rattle.access.specs.declared.Stored.TheVariants.{Size, Refused as NotStored}
 use Rattle.access.specs.Sizes.{size_answer}
 use Rattle.access.specs.Tiling.{Tiles, Tiled}
 use Rattle.access.specs.Holding.{Holds}
@@ -45,20 +40,20 @@ use Rattle.access.proofs.HeldLaws.{answered, mapped-holds}
 
 -- ---- "A byte range splits at chunk boundaries into pieces (chunk, offset within it, length), in rising order, none empty"
 
-split-found : (good short : Bool) (r s : Refusal) (n count : ℕ) → cond good (cond short (NotSplit r) (Pieces n)) (NotSplit s) ≡ Pieces count
+split-found : (good short : Bool) (r s : Refusal) (n count : ℕ) → cond good (cond short (Err r) (Ok n)) (Err s) ≡ Ok count
     → (good ≡ true) × (n ≡ count)
 split-found true false r s n count e = (refl, cc)
 split-found true true r s n count e = let z : ◌≡◌ {A = ℕ} 0 1 = cc in absurd (omega arith)
 split-found false short r s n count e = let z : ◌≡◌ {A = ℕ} 0 1 = cc in absurd (omega arith)
 
 -- Whenever `split` answers, the pieces that it stores tile the range that was asked.
-pub split-tiles : (s : List ℕ) (offset span room count : ℕ) → split_answer s offset span room ≡ Pieces count → Tiled (shape_of s) offset span count
+pub split-tiles : (s : List ℕ) (offset span room count : ℕ) → split_answer s offset span room ≡ Ok count → Tiled (shape_of s) offset span count
 unfolding split_in
 split-tiles s offset span room count e = at (verdict s) refl e
   where
-    at : (v : Verdict) → verdict s ≡ v → if_sound v NotSplit (split_in (shape_of s) offset span room) ≡ Pieces count → Tiled (shape_of s) offset span count
-    at (Unsound r) p h = let z : ◌≡◌ {A = ℕ} 0 1 = cc in absurd (omega arith)
-    at Passed p h =
+    at : (v : Result ⊤ Refusal) → verdict s ≡ v → if_sound v Err (split_in (shape_of s) offset span room) ≡ Ok count → Tiled (shape_of s) offset span count
+    at (Err r) p h = let z : ◌≡◌ {A = ℕ} 0 1 = cc in absurd (omega arith)
+    at (Ok tt) p h =
         let g = shape_of s in
         let b = chunk_bytes g in
         let n = length (pieces_of g offset span) in
@@ -104,25 +99,25 @@ long-covers g offset l e =
 -- ---- "The held words of a chunk's map are handed back as that part of the caller's own image"
 
 -- "for an unmapped chunk or a refusal the part is empty"
-pub held-refused : (s : List ℕ) (i : ℕ) (r : Refusal) → held_status s i ≡ NotHeld r → held_part s i ≡ []
-held-refused s i r e = ap (λ (a : Status). part s (if_answered a (held_words s i))) e
+pub held-refused : (s : List ℕ) (i : ℕ) (r : Refusal) → held_status s i ≡ Err r → held_part s i ≡ []
+held-refused s i r e = ap (λ (a : Result ⊤ Refusal). part s (if_answered a (held_words s i))) e
 
 pub held-unmapped : (s : List ℕ) (i : ℕ) → mapped s i ≡ false → held_part s i ≡ []
 held-unmapped s i m = ap (λ (x : Extent). part s (if_answered (held_status s i) x)) (sym (words-absent s i m)) ∙ none (held_status s i)
   where
-    none : (a : Status) → part s (if_answered a empty_extent) ≡ []
-    none Answered = refl
-    none (NotHeld r) = refl
+    none : (a : Result ⊤ Refusal) → part s (if_answered a empty_extent) ≡ []
+    none (Ok tt) = refl
+    none (Err r) = refl
 
 -- Where the companion answers, the words of the part are the chunk's units, in map order.
-pub held-holds : (s : List ℕ) (i : ℕ) → held_status s i ≡ Answered → Holds (units_of s i) (held_part s i)
+pub held-holds : (s : List ℕ) (i : ℕ) → held_status s i ≡ Ok tt → Holds (units_of s i) (held_part s i)
 held-holds s i e = ⊎_elim (mapped-holds s i e) none (either (mapped s i))
   where
     none : mapped s i ≡ false → Holds (units_of s i) (held_part s i)
     none m = rw (units-unmapped s i m, held-unmapped s i m) (record { size = refl; word = λ j h. absurd (not-suc-le-zero h) })
 
 -- And a mapped chunk's part is not empty.
-pub held-some : (s : List ℕ) (i : ℕ) → held_status s i ≡ Answered → mapped s i ≡ true → 0 < length (held_part s i)
+pub held-some : (s : List ℕ) (i : ℕ) → held_status s i ≡ Ok tt → mapped s i ≡ true → 0 < length (held_part s i)
 held-some s i e m =
     let z = answered s i e in
     omega (arith, (mapped-holds s i e m).size, units-some s z.0 i z.1 m)
@@ -131,22 +126,22 @@ held-some s i e m =
 
 -- Whenever it answers, the image is sound and the chunk is one of its chunks; an unmapped one has 0, and a mapped one a size of just the units that it holds.
 pub record Stores (s : List ℕ) (i n : ℕ) : Type 0 where
-  pub sound : verdict s ≡ Passed
+  pub sound : verdict s ≡ Ok tt
   pub chunk : i < (shape_of s).c
   pub size : n ≡ stored_size s i
   pub none : mapped s i ≡ false → n ≡ 0
   pub units : mapped s i ≡ true → units_for n ≡ length (units_of s i)
 
-pub size-stores : (s : List ℕ) (i n : ℕ) → size_answer s i ≡ Size n → Stores s i n
+pub size-stores : (s : List ℕ) (i n : ℕ) → size_answer s i ≡ Ok n → Stores s i n
 size-stores s i n e = at (verdict s) refl e
   where
-    found : (b : Bool) → ltb i (shape_of s).c ≡ b → cond b (Size (stored_size s i)) (NotStored Range) ≡ Size n → (i < (shape_of s).c) × (n ≡ stored_size s i)
+    found : (b : Bool) → ltb i (shape_of s).c ≡ b → cond b (Ok (stored_size s i)) (Err Range) ≡ Ok n → (i < (shape_of s).c) × (n ≡ stored_size s i)
     found true l h = (ltb-true i (shape_of s).c l, cc)
     found false l h = let z : ◌≡◌ {A = ℕ} 0 1 = cc in absurd (omega arith)
 
-    at : (v : Verdict) → verdict s ≡ v → if_sound v NotStored (cond (ltb i (shape_of s).c) (Size (stored_size s i)) (NotStored Range)) ≡ Size n → Stores s i n
-    at (Unsound r) p h = let z : ◌≡◌ {A = ℕ} 0 1 = cc in absurd (omega arith)
-    at Passed p h =
+    at : (v : Result ⊤ Refusal) → verdict s ≡ v → if_sound v Err (cond (ltb i (shape_of s).c) (Ok (stored_size s i)) (Err Range)) ≡ Ok n → Stores s i n
+    at (Err r) p h = let z : ◌≡◌ {A = ℕ} 0 1 = cc in absurd (omega arith)
+    at (Ok tt) p h =
         let f = found (ltb i (shape_of s).c) refl h in
         record {
           sound = p;

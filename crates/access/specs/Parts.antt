@@ -1,5 +1,5 @@
 -- The held words of a chunk's map, as a part of the image, and the companion call's answer.
-use Rattle.std.specs.Prelude.{ℕ, ◌+◌, ◌-◌, ◌*◌, cond, List, length, take, drop, ltb}
+use Rattle.std.specs.Prelude.{ℕ, ◌+◌, ◌-◌, ◌*◌, cond, List, length, take, drop, ltb, Result, Ok, Err, ⊤}
 use Rattle.layout.specs.declared.Refusal.{Refusal}
 use Rattle.layout.specs.declared.Refusal.TheVariants.{Range}
 use Rattle.layout.specs.Layout.{head, shape_of, link_of, map_word_place}
@@ -7,13 +7,10 @@ use Rattle.image.specs.Soundness.{mapped, units_of}
 use Rattle.image.specs.Verdicts.{verdict}
 use Rattle.image.specs.Answers.{if_sound}
 use Rattle.access.specs.declared.Extent.{Extent}
-use Rattle.access.specs.declared.Held.{Held}
-use Rattle.access.specs.declared.Status.{Status}
-use Rattle.access.specs.declared.Status.TheVariants.{Answered, Refused as Denied}
 
 -- "a companion call on the same inputs gives number and place": 7 is "chunk not below C". An unmapped chunk is no refusal.
-abbrev pub held_status : List ℕ → ℕ → Status
-held_status s i = if_sound (verdict s) Denied (cond (ltb i (shape_of s).c) Answered (Denied Range))
+abbrev pub held_status : List ℕ → ℕ → Result ⊤ Refusal
+held_status s i = if_sound (verdict s) Err (cond (ltb i (shape_of s).c) (Ok tt) (Err Range))
 
 -- an empty part
 abbrev pub empty_extent : Extent
@@ -27,25 +24,21 @@ held_words s i =
     cond (mapped s i) (record { start = start; end = start + 8 * length (units_of s i) }) empty_extent
 
 -- "for an unmapped chunk or a refusal the part is empty"
-abbrev pub if_answered : Status → Extent → Extent
-if_answered Answered e = e
-if_answered (Denied r) e = empty_extent
+abbrev pub if_answered : Result ⊤ Refusal → Extent → Extent
+if_answered (Ok tt) e = e
+if_answered (Err r) e = empty_extent
 
 -- where the part that `held` hands back stands, for any image and chunk number
 abbrev pub held_extent : List ℕ → ℕ → Extent
 held_extent s i = if_answered (held_status s i) (held_words s i)
 
--- both at once, as one load finds them
-abbrev pub held_of : List ℕ → ℕ → Held
-held_of s i = record { status = held_status s i; extent = held_extent s i }
-
--- a refusal, with no part
-abbrev pub not_held : Refusal → Held
-not_held r = record { status = Denied r; extent = empty_extent }
-
 -- the answer on a chunk where the image is not judged again; of a sound image it is `held_of` (held-judged, in proofs/PartLaws.antt)
-unfoldable pub held_on : List ℕ → ℕ → Held
-held_on s i = cond (ltb i (shape_of s).c) (record { status = Answered; extent = held_words s i }) (not_held Range)
+unfoldable pub held_on : List ℕ → ℕ → Result Extent Refusal
+held_on s i = cond (ltb i (shape_of s).c) (Ok (held_words s i)) (Err Range)
+
+-- both at once, as one load finds them
+abbrev pub held_of : List ℕ → ℕ → Result Extent Refusal
+held_of s i = if_sound (verdict s) Err (held_on s i)
 
 -- "that part of the caller's own image"
 abbrev pub part : List ℕ → Extent → List ℕ

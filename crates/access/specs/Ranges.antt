@@ -1,5 +1,5 @@
 -- Byte ranges of a volume: which are good, the pieces that they split into, and what a piece reads first.
-use Rattle.std.specs.Prelude.{ℕ, ◌+◌, ◌-◌, ◌*◌, ◌/◌, ◌%◌, min, max, Bool, ◌&&◌, cond, List, [], ◌∷◌, ◌++◌, map, length, drop, eqb, ltb, leb}
+use Rattle.std.specs.Prelude.{ℕ, ◌+◌, ◌-◌, ◌*◌, ◌/◌, ◌%◌, min, max, Bool, ◌&&◌, cond, List, [], ◌∷◌, ◌++◌, map, length, drop, eqb, ltb, leb, Result, Ok, Err}
 use Rattle.words.specs.Words.{digits}
 use Rattle.search.specs.Search.{from}
 use Rattle.layout.specs.declared.Shape.{Shape}
@@ -9,10 +9,9 @@ use Rattle.image.specs.Soundness.{mapped}
 use Rattle.image.specs.Verdicts.{verdict}
 use Rattle.image.specs.Answers.{if_sound}
 use Rattle.access.specs.declared.Piece.{Piece}
-use Rattle.access.specs.declared.Split.{Split}
-use Rattle.access.specs.declared.Split.TheVariants.{Pieces, Refused as NotSplit}
 use Rattle.access.specs.declared.Access.{Access}
-use Rattle.access.specs.declared.Access.TheVariants.{Nothing, Zeros, Chunk, Refused as Denied}
+use Rattle.access.specs.declared.Access.TheVariants.{Nothing, Zeros, Chunk}
+use Rattle.layout.specs.declared.Refusal.{Refusal}
 
 -- "P units make a chunk"
 abbrev pub chunk_bytes : Shape → ℕ
@@ -72,21 +71,21 @@ piece_bytes = 12
 
 -- Of a sound volume, with `room` bytes lent: 7, then 10 "lent output too short" with the "bytes needed" for all pieces, then how many pieces. Just
 -- enough room is enough.
-unfoldable pub split_in : Shape → ℕ → ℕ → ℕ → Split
+unfoldable pub split_in : Shape → ℕ → ℕ → ℕ → Result ℕ Refusal
 split_in g offset span room =
     let count = length (pieces_of g offset span) in
     cond (good_range g offset span)
-    (cond (ltb room (piece_bytes * count)) (NotSplit (Small (piece_bytes * count))) (Pieces count))
-    (NotSplit Range)
+    (cond (ltb room (piece_bytes * count)) (Err (Small (piece_bytes * count))) (Ok count))
+    (Err Range)
 
 -- of any image: "Every entry point first applies 1 to 6 to its image"
-abbrev pub split_answer : List ℕ → ℕ → ℕ → ℕ → Split
-split_answer s offset span room = if_sound (verdict s) NotSplit (split_in (shape_of s) offset span room)
+abbrev pub split_answer : List ℕ → ℕ → ℕ → ℕ → Result ℕ Refusal
+split_answer s offset span room = if_sound (verdict s) Err (split_in (shape_of s) offset span room)
 
 -- "A refusal changes nothing lent ..; an answer changes nothing past what it writes."
-abbrev pub written : Split → List Piece → List ℕ → List ℕ
-written (Pieces count) xs out = encode_all xs ++ drop (piece_bytes * count) out
-written (NotSplit r) xs out = out
+abbrev pub written : Result ℕ Refusal → List Piece → List ℕ → List ℕ
+written (Ok count) xs out = encode_all xs ++ drop (piece_bytes * count) out
+written (Err r) xs out = out
 
 -- the lent output afterwards
 abbrev pub split_out : List ℕ → ℕ → ℕ → List ℕ → List ℕ
@@ -105,12 +104,12 @@ covers b write span = write && eqb span b
 
 -- "A write piece that covers its chunk reads nothing first. Any other piece reads as zeros on an unmapped chunk; on a mapped one, the whole
 -- chunk's units are read in map order."
-unfoldable pub reads_first : Shape → (ℕ → Bool) → Bool → ℕ → ℕ → Access
+unfoldable pub reads_first : Shape → (ℕ → Bool) → Bool → ℕ → ℕ → Result Access Refusal
 reads_first g is_mapped write offset span =
     cond (good_piece g offset span)
-    (cond (covers (chunk_bytes g) write span) Nothing (cond (is_mapped (first_chunk (chunk_bytes g) offset)) Chunk Zeros))
-    (Denied Range)
+    (cond (covers (chunk_bytes g) write span) (Ok Nothing) (cond (is_mapped (first_chunk (chunk_bytes g) offset)) (Ok Chunk) (Ok Zeros)))
+    (Err Range)
 
 -- of any image
-abbrev pub access_answer : List ℕ → Bool → ℕ → ℕ → Access
-access_answer s write offset span = if_sound (verdict s) Denied (reads_first (shape_of s) (mapped s) write offset span)
+abbrev pub access_answer : List ℕ → Bool → ℕ → ℕ → Result Access Refusal
+access_answer s write offset span = if_sound (verdict s) Err (reads_first (shape_of s) (mapped s) write offset span)

@@ -1,15 +1,13 @@
 // Splitting a byte range into pieces, and what a piece reads first.
-ghost use Rattle.std.specs.Prelude.{◌≡◌, ◌+◌, ◌*◌, ◌<◌, ◌≤◌, min, max, length};
+ghost use Rattle.std.specs.Prelude.{◌≡◌, true, false, ◌+◌, ◌*◌, ◌<◌, ◌≤◌, length, MatchResult};
 ghost use Rattle.std.proofs.lemmas.List.Edits.{sets};
 ghost use Rattle.layout.specs.Layout.{max_chunks, max_chunk_bytes, max_volume_bytes};
 ghost use Rattle.layout.specs.Shaped.{Limits, Shaped};
 ghost use Rattle.image.specs.Soundness.{mapped};
-ghost use Rattle.access.specs.Ranges;
-ghost use Rattle.access.specs.Ranges.{piece_bytes, chunk_bytes, volume_bytes, good_range, first_chunk, piece_count, piece_of, pieces, pieces_of, encode, encode_all, split_in, written, split_answer, split_out, reads_first, access_answer};
+ghost use Rattle.access.specs.Ranges.{piece_bytes, chunk_bytes, volume_bytes, good_range, first_chunk, last_chunk, piece_count, piece_of, pieces, pieces_of, encode, encode_all, split_in, written, split_answer, split_out, reads_first, access_answer};
 
-use crate::{Access, PIECE_BYTES, Piece, Split};
-use image::Outcome;
-use image::maps::link;
+use crate::{Access, PIECE_BYTES, Piece};
+use image::Image;
 use layout::{ABSENT, Refusal, Shape, UNIT_BYTES};
 use loader::load::check_image;
 
@@ -35,51 +33,70 @@ fn good_range(g: Shape, offset: u64, span: u64) -> bool
     ensures { result ≡ good_range g offset span }
 {
     let total = volume_bytes(g);
-    if span < 1 {
-        return false;
-    }
-    if offset % UNIT_BYTES != 0 {
-        return false;
-    }
-    if span % UNIT_BYTES != 0 {
-        return false;
-    }
-    if total < offset {
-        return false;
-    }
-    span <= total - offset
+    span >= 1
+        && offset % UNIT_BYTES == 0
+        && span % UNIT_BYTES == 0
+        && offset <= total
+        && span <= total - offset
 }
 
-fn larger(x: u64, y: u64) -> u64
-    ensures { result ≡ max x y }
-{
-    if x < y {
-        return y;
-    }
-    x
+// The bytes of a good range: those from lo up to hi, without hi, of a volume whose chunks have b bytes.
+#[derive(Clone, Copy)]
+struct Bytes {
+    b: u64,
+    lo: u64,
+    hi: u64,
+    ghost b_low: { 1 ≤ b },
+    ghost b_high: { b ≤ max_chunk_bytes },
+    ghost some: { lo < hi },
+    ghost within: { hi ≤ max_chunks * b },
 }
 
-fn smaller(x: u64, y: u64) -> u64
-    ensures { result ≡ min x y }
-{
-    if x < y {
-        return x;
+impl Bytes {
+    // The bytes of a range of a volume of shape g, if the range is good.
+    fn new(g: Shape, offset: u64, span: u64) -> Result<Bytes, Refusal>
+        requires { Limits g }
+        ensures { MatchResult result
+            (λ x. (good_range g offset span ≡ true) × (x.b ≡ chunk_bytes g) × (x.lo ≡ offset) × (x.hi ≡ offset + span))
+            (λ r. (good_range g offset span ≡ false) × (r ≡ Refusal.Range)) }
+    {
+        if !good_range(g, offset, span) {
+            return Err(Refusal::Range);
+        }
+        Ok(Bytes {
+            b: chunk_bytes(g),
+            lo: offset,
+            hi: offset + span,
+        })
     }
-    y
-}
 
-// What of the bytes from lo up to hi lies in chunk i, of b bytes.
-fn piece_of(b: u64, lo: u64, hi: u64, i: u64) -> Piece
-    requires { (hi ≤ max_volume_bytes) × (b ≤ max_chunk_bytes) × (lo ≤ hi) × (i * b ≤ hi) × (lo ≤ i * b + b) × (i < max_chunks) }
-    ensures { result ≡ piece_of b lo hi i }
-{
-    let base = i * b;
-    let start = larger(lo, base);
-    let end = smaller(hi, base + b);
-    Piece {
-        chunk: i as u32,
-        offset: (start - base) as u32,
-        len: (end - start) as u32,
+    // The chunk of the first byte.
+    fn first_chunk(self) -> u64
+        ensures { result ≡ first_chunk self.b self.lo }
+    {
+        self.lo / self.b
+    }
+
+    // The chunk of the last byte.
+    fn last_chunk(self) -> u64
+        ensures { result ≡ last_chunk self.b self.hi }
+    {
+        (self.hi - 1) / self.b
+    }
+
+    // What of the bytes lies in chunk i.
+    fn piece(self, i: u64) -> Piece
+        requires { (i * self.b ≤ self.hi) × (self.lo ≤ i * self.b + self.b) × (i < max_chunks) }
+        ensures { result ≡ piece_of self.b self.lo self.hi i }
+    {
+        let base = i * self.b;
+        let start = self.lo.max(base);
+        let end = self.hi.min(base + self.b);
+        Piece {
+            chunk: i as u32,
+            offset: (start - base) as u32,
+            len: (end - start) as u32,
+        }
     }
 }
 
@@ -88,102 +105,77 @@ fn put_piece(out: &mut [u8], at: usize, x: Piece)
     requires { at + 12 ≤ length out.old }
     ensures { out.new ≡ sets out.old at (encode x) }
 {
-    let chunk = x.chunk;
-    let offset = x.offset;
-    let len = x.len;
-    words::put_u32(out, at, chunk);
-    words::put_u32(out, at + 4, offset);
-    words::put_u32(out, at + 8, len);
+    words::put_u32(out, at, x.chunk);
+    words::put_u32(out, at + 4, x.offset);
+    words::put_u32(out, at + 8, x.len);
 }
 
-// Stores the pieces of the bytes from lo up to hi, `count` from chunk `first` on.
-fn put_pieces(out: &mut [u8], b: u64, lo: u64, hi: u64, first: u64, count: u64)
-    requires hi_le_max_volume_bytes { (hi ≤ max_volume_bytes) × (1 ≤ b) × (b ≤ max_chunk_bytes) × (lo < hi) × (first + count ≤ max_chunks) × (piece_bytes * count ≤ length out.old) }
-    requires first_value { (first ≡ first_chunk b lo) × (count ≡ piece_count b lo hi) }
-    ensures { out.new ≡ sets out.old 0 (encode_all (pieces b lo hi)) }
+// Stores the pieces of a good range, `count` of them.
+fn put_pieces(out: &mut [u8], bytes: Bytes, count: u64)
+    requires { (count ≡ piece_count bytes.b bytes.lo bytes.hi) × (piece_bytes * count ≤ length out.old) }
+    ensures { out.new ≡ sets out.old 0 (encode_all (pieces bytes.b bytes.lo bytes.hi)) }
 {
-    let mut k: u64 = 0;
-    while k < count {
-        let x = piece_of(b, lo, hi, first + k);
-        put_piece(out, (PIECE_BYTES * k) as usize, x);
-        k += 1;
+    let first = bytes.first_chunk();
+    for k in 0..count {
+        put_piece(out, (PIECE_BYTES * k) as usize, bytes.piece(first + k));
     }
 }
 
 // Splits a range of a volume of shape g.
-fn split_in(g: Shape, offset: u64, span: u64, out: &mut [u8]) -> Split
+fn split_in(g: Shape, offset: u64, span: u64, out: &mut [u8]) -> Result<u32, Refusal>
     requires { Limits g }
     ensures value { result ≡ split_in g offset span (length out.old) }
     ensures out_after { out.new ≡ written (split_in g offset span (length out.old)) (pieces_of g offset span) out.old }
 {
-    if !good_range(g, offset, span) {
-        return Split::Refused(Refusal::Range);
-    }
-    let b = chunk_bytes(g);
-    let hi = offset + span;
-    let first = offset / b;
-    let count = (hi - 1) / b + 1 - first;
+    let bytes = Bytes::new(g, offset, span)?;
+    let count = bytes.last_chunk() + 1 - bytes.first_chunk();
     let need = PIECE_BYTES * count;
     if (out.len() as u64) < need {
-        return Split::Refused(Refusal::Small(need as u32));
+        return Err(Refusal::Small(need as u32));
     }
-    put_pieces(out, b, offset, hi, first, count);
-    Split::Pieces(count as u32)
+    put_pieces(out, bytes, count);
+    Ok(count as u32)
 }
 
 // Splits a byte range at chunk boundaries, and stores its pieces in `out`.
-pub fn split(image: &[u8], offset: u64, span: u64, out: &mut [u8]) -> Split
+pub fn split(image: &[u8], offset: u64, span: u64, out: &mut [u8]) -> Result<u32, Refusal>
     ensures value { result ≡ split_answer image.now offset span (length out.old) }
     ensures out_after { out.new ≡ split_out image.now offset span out.old }
 {
-    let o = check_image(image);
-    match o {
-        Outcome::Refused(r) => Split::Refused(r),
-        Outcome::Sound(g) => split_in(g, offset, span, out),
-    }
-}
-
-// Whether a piece, where a chunk has b bytes, is a write of its whole chunk.
-fn covers(b: u64, write: bool, span: u64) -> bool
-    ensures { result ≡ Ranges.covers b write span }
-{
-    if write {
-        return span == b;
-    }
-    false
+    let g = check_image(image)?;
+    split_in(g, offset, span, out)
 }
 
 // What a piece reads first, in an image of shape g.
-pub fn access_on(image: &[u8], g: Shape, write: bool, offset: u64, span: u64) -> Access
-    requires { Shaped image.now g }
-    ensures { result ≡ reads_first g (mapped image.now) write offset span }
+pub fn access_on(image: &Image, write: bool, offset: u64, span: u64) -> Result<Access, Refusal>
+    ensures { result ≡ reads_first image.now.shape (mapped image.now.bytes.now) write offset span }
 {
-    if !good_range(g, offset, span) {
-        return Access::Refused(Refusal::Range);
+    let bytes = Bytes::new(image.shape, offset, span)?;
+    let first = bytes.first_chunk();
+    if first != bytes.last_chunk() {
+        return Err(Refusal::Range);
     }
-    let b = chunk_bytes(g);
-    let hi = offset + span;
-    let first = offset / b;
-    let last = (hi - 1) / b;
-    if first != last {
-        return Access::Refused(Refusal::Range);
+    if write && span == bytes.b {
+        return Ok(Access::Nothing);
     }
-    if covers(b, write, span) {
-        return Access::Nothing;
+    if image.link(first as usize) == ABSENT {
+        return Ok(Access::Zeros);
     }
-    if link(image, g, first as usize) == ABSENT {
-        return Access::Zeros;
-    }
-    Access::Chunk
+    Ok(Access::Chunk)
 }
 
 // What a read or a write of a byte range within one chunk reads first.
-pub fn access(image: &[u8], write: bool, offset: u64, span: u64) -> Access
+pub fn access(image: &[u8], write: bool, offset: u64, span: u64) -> Result<Access, Refusal>
     ensures { result ≡ access_answer image.now write offset span }
 {
-    let o = check_image(image);
-    match o {
-        Outcome::Refused(r) => Access::Refused(r),
-        Outcome::Sound(g) => access_on(image, g, write, offset, span),
-    }
+    let shape = check_image(image)?;
+    access_on(
+        &Image {
+            bytes: image,
+            shape,
+        },
+        write,
+        offset,
+        span,
+    )
 }

@@ -1,4 +1,5 @@
 -- The theorems of this crate that a reader wants. `Bytes s` says that each element of s is below 256, as every lent image's is.
+use Rattle.std.specs.Prelude.{Result, Ok, Err, ⊤}
 use Prim.Native.Nat.{ℕ, ◌*◌, ◌≤◌, ◌<◌}
 use native.Mathlib.Omega.{arith}
 use mathlib.Core.Path.{◌≡◌, refl, sym, ap, subst, fun_ext, ◌∙◌}
@@ -17,8 +18,6 @@ use Rattle.layout.specs.declared.Refusal.TheVariants.{Short, Foreign, Small}
 use Rattle.layout.specs.Layout.{unit_bytes, first_edition, last_edition, map_words, word_at, map_word_place, trailer_bytes, image_bytes, known_as, edition_of, shape_of, link_of}
 use Rattle.layout.specs.Shaped.{map_of}
 use Rattle.layout.proofs.Limits.{shape-edition, fitting-limits, map-words, unit-unreserved, between-unit}
-use Rattle.image.specs.declared.Verdict.{Verdict}
-use Rattle.image.specs.declared.Verdict.TheVariants.{Refused as VerdictRefused, Passed}
 use Rattle.image.specs.Soundness.{Named, units_of, Sound}
 use Rattle.image.specs.Verdicts.{as_first, first_verdict}
 use Rattle.image.specs.Rows.{Row}
@@ -31,8 +30,6 @@ use Rattle.image.proofs.Wording.{tested-sound, sound-tested, sound-shape, sound-
 use Rattle.image.proofs.Refusing.{row-refused}
 use Rattle.image.proofs.Chunks.{is_mapped, units-are-units}
 use Rattle.image.proofs.Room.{free_unit-unreserved, free_unit-below, free_unit-unheld, free_unit-intro, free_map-below, free_map-unnamed, free_map-intro}
-use Rattle.convert.specs.declared.Converted.{Converted}
-use Rattle.convert.specs.declared.Converted.TheVariants.{Bytes as BytesLeft, Refused}
 use Rattle.convert.specs.Convert.{second_of, new_bytes, converted, if_exact, convert_answer, convert_out}
 use Rattle.convert.specs.Reading.{Converts}
 use Rattle.convert.proofs.Answering.{exact-other, exact_same, left_out, answer-refused, answer-sound}
@@ -44,56 +41,56 @@ use Rattle.convert.proofs.Copying.{converted-sound, converted-links, converted-u
 
 -- what an answer says: the image passes as one of edition 1, and the second buffer has exactly the new length n
 pub record Answered (s : List ℕ) (room n : ℕ) : Type 0 where
-  pub passed : first_verdict s ≡ Passed
+  pub passed : first_verdict s ≡ Ok tt
   pub needed : n ≡ new_bytes s
   pub exact : room ≡ n
 
 -- and a refusal: it is the image's own; or the image passes, and the buffer has another length, shorter or longer
 pub data Denied (s : List ℕ) (room : ℕ) (r : Refusal) : Type 0 where
-  by_image : first_verdict s ≡ VerdictRefused r → Denied s room r
-  for_room : first_verdict s ≡ Passed → r ≡ Small (new_bytes s) → room ≢ new_bytes s → Denied s room r
+  by_image : first_verdict s ≡ Err r → Denied s room r
+  for_room : first_verdict s ≡ Ok tt → r ≡ Small (new_bytes s) → room ≢ new_bytes s → Denied s room r
 
 -- what each answer says of the input
-abbrev Says : List ℕ → ℕ → Converted → Type 0
-Says s room (BytesLeft n) = Answered s room n
-Says s room (Refused r) = Denied s room r
+abbrev Says : List ℕ → ℕ → Result ℕ Refusal → Type 0
+Says s room (Ok n) = Answered s room n
+Says s room (Err r) = Denied s room r
 
 says : (s : List ℕ) (room : ℕ) → Says s room (convert_answer s room)
 unfolding convert_answer if_exact
 says s room = by-verdict (first_verdict s) refl
   where
-    by-room : (b : Bool) → eqb room (new_bytes s) ≡ b → first_verdict s ≡ Passed → Says s room (cond b (BytesLeft (new_bytes s)) (Refused (Small (new_bytes s))))
+    by-room : (b : Bool) → eqb room (new_bytes s) ≡ b → first_verdict s ≡ Ok tt → Says s room (cond b (Ok (new_bytes s)) (Err (Small (new_bytes s))))
     by-room true l v = record { passed = v; needed = refl; exact = eqb-true room (new_bytes s) l }
     by-room false l v = for_room v refl (eqb-false room (new_bytes s) l)
 
-    by-verdict : (v : Verdict) → first_verdict s ≡ v
-        → Says s room (if_sound v Refused (cond (eqb room (new_bytes s)) (BytesLeft (new_bytes s)) (Refused (Small (new_bytes s)))))
-    by-verdict Passed q = by-room (eqb room (new_bytes s)) refl q
-    by-verdict (VerdictRefused r) q = by_image q
+    by-verdict : (v : Result ⊤ Refusal) → first_verdict s ≡ v
+        → Says s room (if_sound v Err (cond (eqb room (new_bytes s)) (Ok (new_bytes s)) (Err (Small (new_bytes s)))))
+    by-verdict (Ok tt) q = by-room (eqb room (new_bytes s)) refl q
+    by-verdict (Err r) q = by_image q
 
 -- A conversion is answered, and refused, only so.
-pub answered : (s : List ℕ) (room n : ℕ) → convert_answer s room ≡ BytesLeft n → Answered s room n
+pub answered : (s : List ℕ) (room n : ℕ) → convert_answer s room ≡ Ok n → Answered s room n
 answered s room n e = subst (Says s room) e (says s room)
 
-pub denied : (s : List ℕ) (room : ℕ) (r : Refusal) → convert_answer s room ≡ Refused r → Denied s room r
+pub denied : (s : List ℕ) (room : ℕ) (r : Refusal) → convert_answer s room ≡ Err r → Denied s room r
 denied s room r e = subst (Says s room) e (says s room)
 
 -- And always so: 1 for fewer than 32 bytes.
-pub short-refused : (s : List ℕ) (room : ℕ) → length s < trailer_bytes first_edition → convert_answer s room ≡ Refused Short
+pub short-refused : (s : List ℕ) (room : ℕ) → length s < trailer_bytes first_edition → convert_answer s room ≡ Err Short
 short-refused s room h =
     let a = ltb (length s) (trailer_bytes first_edition) in
     answer-refused s room Short (first-verdict s (or_left a (known_as first_edition s) (lt-ltb (length s) (trailer_bytes first_edition) h)) ∙ row-refused s Short h)
 
 -- Then 2 for whatever is not read as edition 1, sound or damaged.
-pub other-refused : (s : List ℕ) (room : ℕ) → trailer_bytes first_edition ≤ length s → known_as first_edition s ≡ false → convert_answer s room ≡ Refused Foreign
+pub other-refused : (s : List ℕ) (room : ℕ) → trailer_bytes first_edition ≤ length s → known_as first_edition s ≡ false → convert_answer s room ≡ Err Foreign
 other-refused s room h k = answer-refused s room Foreign (read-other s h k)
 
 -- "an edition 2 input gives 2"
-pub second-refused : (g : Shape) (s : List ℕ) (room : ℕ) → Sound g s → g.edition ≡ last_edition → convert_answer s room ≡ Refused Foreign
+pub second-refused : (g : Shape) (s : List ℕ) (room : ℕ) → Sound g s → g.edition ≡ last_edition → convert_answer s room ≡ Err Foreign
 second-refused g s room z e = other-refused s room (sound-tested g s z).long (sound-second g s z e)
 
 -- Then 3 to 6: what load says of an image that is read as edition 1.
-pub row-refuses : (s : List ℕ) (room : ℕ) (r : Refusal) → known_as first_edition s ≡ true → Row s r → convert_answer s room ≡ Refused r
+pub row-refuses : (s : List ℕ) (room : ℕ) (r : Refusal) → known_as first_edition s ≡ true → Row s r → convert_answer s room ≡ Err r
 row-refuses s room r k h = answer-refused s room r (read_first s k ∙ row-refused s r h)
 
 module _ (g : Shape) (s : List ℕ) (z : Sound g s) (e : g.edition ≡ first_edition) (room : ℕ) where
@@ -103,21 +100,21 @@ module _ (g : Shape) (s : List ℕ) (z : Sound g s) (e : g.edition ≡ first_edi
       ∙ ap (λ (h : Shape). if_exact room (image_bytes (second_of h))) (sound-shape g s z)
 
   -- "a buffer not of exactly the new length gives 10", with that length
-  pub length-refused : room ≢ image_bytes (second_of g) → convert_answer s room ≡ Refused (Small (image_bytes (second_of g)))
+  pub length-refused : room ≢ image_bytes (second_of g) → convert_answer s room ≡ Err (Small (image_bytes (second_of g)))
   length-refused h = sound-exact ∙ exact-other room (image_bytes (second_of g)) (image_bytes (second_of g)) refl h
 
   -- and a sound image of edition 1 is converted into a buffer of exactly that length
-  pub sound-converted : room ≡ image_bytes (second_of g) → convert_answer s room ≡ BytesLeft (image_bytes (second_of g))
+  pub sound-converted : room ≡ image_bytes (second_of g) → convert_answer s room ≡ Ok (image_bytes (second_of g))
   sound-converted h = sound-exact ∙ exact_same room (image_bytes (second_of g)) (image_bytes (second_of g)) refl h
 
 -- "A refusal changes nothing lent": the image is only read, and the second buffer stays.
-pub refusal-changes-nothing : (s out : List ℕ) (r : Refusal) → convert_answer s (length out) ≡ Refused r → convert_out s out ≡ out
-refusal-changes-nothing s out r e = left_out s out (convert_answer s (length out)) (Refused r) e
+pub refusal-changes-nothing : (s out : List ℕ) (r : Refusal) → convert_answer s (length out) ≡ Err r → convert_out s out ≡ out
+refusal-changes-nothing s out r e = left_out s out (convert_answer s (length out)) (Err r) e
 
 -- ---- what a conversion leaves
 
 -- an image that passes as one of edition 1
-module _ (s : List ℕ) (v : first_verdict s ≡ Passed) where
+module _ (s : List ℕ) (v : first_verdict s ≡ Ok tt) where
   first-known : (as_first s ≡ true) × Tested s
   first-known =
       ⊎_elim (λ h. (h, passed-tested s (sym (first-verdict s h) ∙ v)))
@@ -133,7 +130,7 @@ module _ (s : List ℕ) (v : first_verdict s ≡ Passed) where
       (or_cases (ltb (length s) (trailer_bytes first_edition)) (known_as first_edition s) first-known.0))
 
 -- edition 1 reserves no unit
-none-reserved : (s : List ℕ) → first_verdict s ≡ Passed → (shape_of s).r ≡ 0
+none-reserved : (s : List ℕ) → first_verdict s ≡ Ok tt → (shape_of s).r ≡ 0
 none-reserved s v = (fitting-limits s (first-known s v).1.fitting).r-first (first-edition s v)
 
 module _ (s : List ℕ) (z : Tested s) (none : (shape_of s).r ≡ 0) where
@@ -221,8 +218,8 @@ pub converts-only : (g : Shape) (s t : List ℕ) → Sound g s → Bytes t → C
 converts-only g s t z b h =
     let k = sound-tested g s z in settled s t (converted s) h (tested-converts s k (all-units s t k h)) b (bytes-converted s t h b)
 
-module _ (s out : List ℕ) (n : ℕ) (e : convert_answer s (length out) ≡ BytesLeft n) where
-  was-first : first_verdict s ≡ Passed
+module _ (s out : List ℕ) (n : ℕ) (e : convert_answer s (length out) ≡ Ok n) where
+  was-first : first_verdict s ≡ Ok tt
   was-first = (answered s (length out) n e).passed
 
   -- Whatever is converted was a sound image of edition 1.
@@ -233,7 +230,7 @@ module _ (s out : List ℕ) (n : ℕ) (e : convert_answer s (length out) ≡ Byt
   pub whole-buffer : (convert_out s out ≡ converted s) × (length (converted s) ≡ length out)
   whole-buffer =
       let a = answered s (length out) n e in (
-        left_out s out (convert_answer s (length out)) (BytesLeft n) e,
+        left_out s out (convert_answer s (length out)) (Ok n) e,
         (converted-sound s (first-known s was-first).1).size ∙ sym (a.exact ∙ a.needed),
       )
 
@@ -242,5 +239,5 @@ module _ (s out : List ℕ) (n : ℕ) (e : convert_answer s (length out) ≡ Byt
   convert-converts = subst (Converts s) (sym whole-buffer.0) (tested-converts s (first-known s was-first).1 (none-reserved s was-first))
 
   -- What is left is refused by a second conversion, with 2.
-  pub again-refused : (room : ℕ) → convert_answer (convert_out s out) room ≡ Refused Foreign
+  pub again-refused : (room : ℕ) → convert_answer (convert_out s out) room ≡ Err Foreign
   again-refused room = second-refused (second_of (shape_of s)) (convert_out s out) room convert-converts.sound refl

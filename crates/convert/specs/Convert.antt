@@ -1,5 +1,5 @@
 -- The converter from edition 1 to edition 2 (02, request 4): what it answers, and every byte of the second buffer afterwards. It only reads the image.
-use Rattle.std.specs.Prelude.{ℕ, zero, suc, ◌*◌, cond, List, [], ◌∷◌, map, length, get_or, eqb}
+use Rattle.std.specs.Prelude.{ℕ, zero, suc, ◌*◌, cond, List, [], ◌∷◌, map, length, get_or, eqb, Result, Ok, Err}
 use Rattle.search.specs.Search.{below}
 use Rattle.layout.specs.declared.Shape.{Shape}
 use Rattle.layout.specs.declared.Refusal.TheVariants.{Small}
@@ -7,8 +7,7 @@ use Rattle.layout.specs.Layout.{X, unit_bytes, edition2, map_words, after_head, 
 use Rattle.image.specs.Soundness.{mapped, units_of}
 use Rattle.image.specs.Verdicts.{first_verdict}
 use Rattle.image.specs.Answers.{if_sound}
-use Rattle.convert.specs.declared.Converted.{Converted}
-use Rattle.convert.specs.declared.Converted.TheVariants.{Bytes, Refused}
+use Rattle.layout.specs.declared.Refusal.{Refusal}
 
 -- ---- the image of edition 2
 
@@ -51,18 +50,18 @@ converted s = copied_below s (shape_of s).c
 -- ---- what `convert` answers
 
 -- "a buffer not of exactly the new length gives 10", with the new length n as its place; else n
-unfoldable pub if_exact : ℕ → ℕ → Converted
-if_exact room n = cond (eqb room n) (Bytes n) (Refused (Small n))
+unfoldable pub if_exact : ℕ → ℕ → Result ℕ Refusal
+if_exact room n = cond (eqb room n) (Ok n) (Err (Small n))
 
 -- of any bytes, with a second buffer of `room` bytes. 01's own verdict comes first: 1; then 2 on whatever is not read as edition 1, sound or damaged, "an
 -- edition 2 input gives 2"; then 3 to 6.
-unfoldable pub convert_answer : List ℕ → ℕ → Converted
-convert_answer s room = if_sound (first_verdict s) Refused (if_exact room (new_bytes s))
+unfoldable pub convert_answer : List ℕ → ℕ → Result ℕ Refusal
+convert_answer s room = if_sound (first_verdict s) Err (if_exact room (new_bytes s))
 
 -- "A refusal changes nothing lent": what is there after an answer, and what was there before
-abbrev pub unless_refused : Converted → List ℕ → List ℕ → List ℕ
-unless_refused (Bytes n) after before = after
-unless_refused (Refused r) after before = before
+abbrev pub unless_refused : Result ℕ Refusal → List ℕ → List ℕ → List ℕ
+unless_refused (Ok n) after before = after
+unless_refused (Err r) after before = before
 
 -- the second buffer afterwards
 abbrev pub convert_out : List ℕ → List ℕ → List ℕ

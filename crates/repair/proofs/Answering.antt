@@ -1,4 +1,5 @@
 -- The set of chunks that the code found against the list of the definition, and what `repair` answers and leaves.
+use Rattle.std.specs.Prelude.{Result, Ok, Err}
 use Prim.Native.Nat.{ℕ, ◌+◌, ◌*◌, ◌≤◌, ◌<◌}
 use native.Mathlib.Omega.{arith}
 use mathlib.Core.Path.{◌≡◌, refl, sym, ap, ◌∙◌}
@@ -18,12 +19,9 @@ use Rattle.bitset.proofs.Members.{members-below, in_whole}
 use Rattle.layout.specs.declared.Shape.{Shape}
 use Rattle.layout.specs.declared.Refusal.{Refusal}
 use Rattle.layout.specs.declared.Refusal.TheVariants.{Small}
-use Rattle.layout.specs.declared.Trailer.TheVariants.{Fits, Refused as TrailerRefused}
 use Rattle.layout.specs.Trailer.{trailer_outcome}
 use Rattle.layout.specs.Layout.{shape_of}
 use Rattle.layout.specs.Shaped.{Shaped}
-use Rattle.repair.specs.declared.Repaired.{Repaired}
-use Rattle.repair.specs.declared.Repaired.TheVariants.{Unlinked, Refused}
 use Rattle.repair.specs.Repair.{unlinks, unlinked, unlink, repaired, list_bytes, listing, if_room, repair_answer, unless_refused}
 use Rattle.repair.specs.Claims.{chunk_set_words, bad_below, unlinks_below}
 use Rattle.repair.proofs.Unlinking.{list-front}
@@ -79,46 +77,46 @@ unfolding repaired
 whole s = refl
 
 module _ (s out : List ℕ) (n : ℕ) (e : n ≡ length (unlinked s)) where
-  abbrev answer : Repaired
+  abbrev answer : Result ℕ Refusal
   answer = if_room (length out) (length (unlinked s))
 
-  small : length out < 4 * n → answer ≡ Refused (Small (4 * n))
+  small : length out < 4 * n → answer ≡ Err (Small (4 * n))
   unfolding if_room
   small h = rw (← e, lt-ltb (length out) (4 * n) h)
 
-  enough : 4 * n ≤ length out → answer ≡ Unlinked n
+  enough : 4 * n ≤ length out → answer ≡ Ok n
   unfolding if_room
   enough h = rw (← e, le-ltb (length out) (4 * n) h)
 
   pub too_short : length out < 4 * n
-      → (Refused (Small (4 * n)) ≡ if_room (length out) (length (unlinked s)))
+      → (Err (Small (4 * n)) ≡ if_room (length out) (length (unlinked s)))
       × ((s ≡ unless_refused (if_room (length out) (length (unlinked s))) (repaired s) s)
       × (out ≡ unless_refused (if_room (length out) (length (unlinked s))) (listing s out) out))
   too_short h =
       let w = small h in
-      (sym w, (ap (λ (a : Repaired). unless_refused a (repaired s) s) (sym w), ap (λ (a : Repaired). unless_refused a (listing s out) out) (sym w)))
+      (sym w, (ap (λ (a : Result ℕ Refusal). unless_refused a (repaired s) s) (sym w), ap (λ (a : Result ℕ Refusal). unless_refused a (listing s out) out) (sym w)))
 
   pub long-enough : 4 * n ≤ length out → (xs t o : List ℕ) → xs ≡ unlinked s → t ≡ unlink s xs → o ≡ sets out 0 (list_bytes xs)
-      → (Unlinked n ≡ if_room (length out) (length (unlinked s)))
+      → (Ok n ≡ if_room (length out) (length (unlinked s)))
       × ((t ≡ unless_refused (if_room (length out) (length (unlinked s))) (repaired s) s)
       × (o ≡ unless_refused (if_room (length out) (length (unlinked s))) (listing s out) out))
   long-enough h xs t o x u w =
       let q = enough h in (
         sym q,
         (
-          u ∙ ap (unlink s) x ∙ whole s ∙ ap (λ (a : Repaired). unless_refused a (repaired s) s) (sym q),
+          u ∙ ap (unlink s) x ∙ whole s ∙ ap (λ (a : Result ℕ Refusal). unless_refused a (repaired s) s) (sym q),
           w ∙ ap (λ (ys : List ℕ). sets out 0 (list_bytes ys)) x ∙ list-front (unlinked s) out (omega arith)
-              ∙ ap (λ (a : Repaired). unless_refused a (listing s out) out) (sym q),
+              ∙ ap (λ (a : Result ℕ Refusal). unless_refused a (listing s out) out) (sym q),
         ),
       )
 
 -- ---- what `repair` owes, by the trailer
 
 module _ (s : List ℕ) (room : ℕ) where
-  pub answer-fits : (g : Shape) → trailer_outcome s ≡ Fits g → if_room room (length (unlinked s)) ≡ repair_answer s room
+  pub answer-fits : (g : Shape) → trailer_outcome s ≡ Ok g → if_room room (length (unlinked s)) ≡ repair_answer s room
   unfolding repair_answer
   answer-fits g e = rw e
 
-  pub answer-refused : (r : Refusal) → trailer_outcome s ≡ TrailerRefused r → Refused r ≡ repair_answer s room
+  pub answer-refused : (r : Refusal) → trailer_outcome s ≡ Err r → Err r ≡ repair_answer s room
   unfolding repair_answer
   answer-refused r e = rw e

@@ -1,4 +1,5 @@
 -- Worked cases on document 01's 224-byte volume, and on that of edition 2 with reserved units, computed: one statement.
+use Rattle.std.specs.Prelude.{Ok, Err}
 use Prim.Native.Nat.{ℕ}
 use mathlib.Core.Path.{◌≡◌, refl}
 use mathlib.Core.List.{List, [], ◌∷◌}
@@ -10,7 +11,6 @@ use Rattle.layout.specs.Layout.{X, edition2, is_unit, map_words, added_bytes, ta
 use Rattle.image.specs.Soundness.{leading, units_of}
 use Rattle.image.specs.Verdicts.{clash, well_formed, size_fits, good_form}
 use Rattle.image.proofs.Cases.{small, third}
-use Rattle.repair.specs.declared.Repaired.TheVariants.{Unlinked, Refused}
 use Rattle.repair.specs.Repair.{bad, shares_with, shares, names_twice, unlinks, unlinked, unlink, repaired, if_room, repair_answer, repair_image, repair_list, list_bytes}
 
 -- Chunks 0 and 3 both name map 0, which holds unit 7; chunk 1 has map 1 with unit 9; map 4, which no chunk names, says unit 7 too.
@@ -41,13 +41,13 @@ unfolding fresh digits
 on_reserved = put_word (put_word (put_word (put_word (put_word (put_word (put_word (fresh (edition2 4 4 5 20 3)) 0 0) 4 8192) 5 3) 6 2) 1 1) 9 4096) 10 3
 
 worked :
-    (repair_answer [] 4 ≡ Refused Short)
-    × (repair_answer third 0 ≡ Unlinked 0)
+    (repair_answer [] 4 ≡ Err Short)
+    × (repair_answer third 0 ≡ Ok 0)
     × (repair_image third 0 ≡ third)
     × (unlinked two_on_one ≡ 0 ∷ 3 ∷ [])
-    × (repair_answer two_on_one 7 ≡ Refused (Small 8))
+    × (repair_answer two_on_one 7 ≡ Err (Small 8))
     × (repair_image two_on_one 7 ≡ two_on_one)
-    × (repair_answer two_on_one 8 ≡ Unlinked 2)
+    × (repair_answer two_on_one 8 ≡ Ok 2)
     × (repair_image two_on_one 8 ≡ put_word (put_word two_on_one 0 X) 3 X)
     × (repair_list two_on_one (1 ∷ 2 ∷ 3 ∷ 4 ∷ 5 ∷ 6 ∷ 7 ∷ 8 ∷ 9 ∷ []) ≡ 0 ∷ 0 ∷ 0 ∷ 0 ∷ 3 ∷ 0 ∷ 0 ∷ 0 ∷ 9 ∷ [])
     × (unlinked bad_neighbour ≡ 1 ∷ [])

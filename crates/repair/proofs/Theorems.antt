@@ -1,4 +1,5 @@
 -- The theorems of this crate that a reader wants. `Bytes s` says that each element of s is below 256, as every lent image's is.
+use Rattle.std.specs.Prelude.{Result, Ok, Err}
 use Prim.Native.Nat.{ℕ, zero, suc, ◌+◌, ◌*◌, ◌^◌, ◌≤◌, ◌<◌}
 use native.Mathlib.Omega.{arith}
 use mathlib.Core.Path.{◌≡◌, refl, sym, ap, ap₂, ◌∙◌, subst}
@@ -17,8 +18,6 @@ use Rattle.words.proofs.Numbers.{number-here, number-next}
 use Rattle.layout.specs.declared.Shape.{Shape}
 use Rattle.layout.specs.declared.Refusal.{Refusal}
 use Rattle.layout.specs.declared.Refusal.TheVariants.{Small}
-use Rattle.layout.specs.declared.Trailer.{Trailer}
-use Rattle.layout.specs.declared.Trailer.TheVariants.{Fits, Refused as TrailerRefused}
 use Rattle.layout.specs.Trailer.{trailer_outcome}
 use Rattle.layout.specs.Layout.{trailer_start, trailer_of, shape_of}
 use Rattle.layout.specs.Shaped.{On}
@@ -28,8 +27,6 @@ use Rattle.image.specs.Soundness.{Sound}
 use Rattle.image.specs.Claims.{Tested}
 use Rattle.image.proofs.Order.{orderly-tested}
 use Rattle.image.proofs.Wording.{trailed-sound, sound-tested}
-use Rattle.repair.specs.declared.Repaired.{Repaired}
-use Rattle.repair.specs.declared.Repaired.TheVariants.{Unlinked, Refused}
 use Rattle.repair.specs.Repair.{unlinks, unlinked, unlink, repaired, list_bytes, listing, if_room, if_shaped, repair_answer, unless_refused, repair_image, repair_list}
 use Rattle.repair.specs.Reading.{numbers_in, Repairs}
 use Rattle.repair.proofs.Unlinking.{length-list_bytes}
@@ -41,72 +38,72 @@ use Rattle.repair.proofs.Wording.{unlinks-fault, fault-unlinks}
 
 -- what an answer says: the trailer passes, n chunks are unlinked, and the buffer has four bytes for each
 pub record Answered (s : List ℕ) (room n : ℕ) : Type 0 where
-  pub trailer : trailer_outcome s ≡ Fits (shape_of s)
+  pub trailer : trailer_outcome s ≡ Ok (shape_of s)
   pub count : n ≡ length (unlinked s)
   pub enough : 4 * n ≤ room
 
 -- and a refusal: the trailer is refused so; or it passes, and the buffer is too short
 pub data Denied (s : List ℕ) (room : ℕ) (r : Refusal) : Type 0 where
-  by_trailer : trailer_outcome s ≡ TrailerRefused r → Denied s room r
-  for_room : trailer_outcome s ≡ Fits (shape_of s) → r ≡ Small (4 * length (unlinked s)) → room < 4 * length (unlinked s) → Denied s room r
+  by_trailer : trailer_outcome s ≡ Err r → Denied s room r
+  for_room : trailer_outcome s ≡ Ok (shape_of s) → r ≡ Small (4 * length (unlinked s)) → room < 4 * length (unlinked s) → Denied s room r
 
 -- what each answer says of the input
-abbrev Says : List ℕ → ℕ → Repaired → Type 0
-Says s room (Unlinked n) = Answered s room n
-Says s room (Refused r) = Denied s room r
+abbrev Says : List ℕ → ℕ → Result ℕ Refusal → Type 0
+Says s room (Ok n) = Answered s room n
+Says s room (Err r) = Denied s room r
 
 says : (s : List ℕ) (room : ℕ) → Says s room (repair_answer s room)
 unfolding repair_answer if_room
 says s room = by-trailer (trailer_outcome s) refl
   where
-    by-room : (b : Bool) → ltb room (4 * length (unlinked s)) ≡ b → trailer_outcome s ≡ Fits (shape_of s)
-        → Says s room (cond b (Refused (Small (4 * length (unlinked s)))) (Unlinked (length (unlinked s))))
+    by-room : (b : Bool) → ltb room (4 * length (unlinked s)) ≡ b → trailer_outcome s ≡ Ok (shape_of s)
+        → Says s room (cond b (Err (Small (4 * length (unlinked s)))) (Ok (length (unlinked s))))
     by-room true l t = for_room t refl (ltb-true room (4 * length (unlinked s)) l)
     by-room false l t = record { trailer = t; count = refl; enough = ltb-false room (4 * length (unlinked s)) l }
 
-    by-trailer : (t : Trailer) → trailer_outcome s ≡ t
-        → Says s room (if_shaped t (cond (ltb room (4 * length (unlinked s))) (Refused (Small (4 * length (unlinked s)))) (Unlinked (length (unlinked s)))))
-    by-trailer (Fits g) q = by-room (ltb room (4 * length (unlinked s))) refl (q ∙ ap (λ (k : Shape). Fits k) (sym (fits_on s g q).shape))
-    by-trailer (TrailerRefused r) q = by_trailer q
+    by-trailer : (t : Result Shape Refusal) → trailer_outcome s ≡ t
+        → Says s room (if_shaped t (cond (ltb room (4 * length (unlinked s))) (Err (Small (4 * length (unlinked s)))) (Ok (length (unlinked s)))))
+    by-trailer (Ok g) q = by-room (ltb room (4 * length (unlinked s))) refl (q ∙ ap (λ (k : Shape). Ok k) (sym (fits_on s g q).shape))
+    by-trailer (Err r) q = by_trailer q
 
 -- A repair is answered, and refused, exactly so.
-pub answered : (s : List ℕ) (room n : ℕ) → repair_answer s room ≡ Unlinked n → Answered s room n
+pub answered : (s : List ℕ) (room n : ℕ) → repair_answer s room ≡ Ok n → Answered s room n
 answered s room n e = subst (Says s room) e (says s room)
 
-pub answers : (s : List ℕ) (room n : ℕ) → Answered s room n → repair_answer s room ≡ Unlinked n
+pub answers : (s : List ℕ) (room n : ℕ) → Answered s room n → repair_answer s room ≡ Ok n
 unfolding if_room
 answers s room n a =
     let c = a.count in
     sym (answer-fits s room (shape_of s) a.trailer) ∙ rw (← c, le-ltb room (4 * n) a.enough)
 
-pub denied : (s : List ℕ) (room : ℕ) (r : Refusal) → repair_answer s room ≡ Refused r → Denied s room r
+pub denied : (s : List ℕ) (room : ℕ) (r : Refusal) → repair_answer s room ≡ Err r → Denied s room r
 denied s room r e = subst (Says s room) e (says s room)
 
-pub denies : (s : List ℕ) (room : ℕ) (r : Refusal) → Denied s room r → repair_answer s room ≡ Refused r
+pub denies : (s : List ℕ) (room : ℕ) (r : Refusal) → Denied s room r → repair_answer s room ≡ Err r
 unfolding if_room
 denies s room r (by_trailer t) = sym (answer-refused s room r t)
 denies s room r (for_room t e h) =
     sym (answer-fits s room (shape_of s) t) ∙ rw (e, lt-ltb room (4 * length (unlinked s)) h)
 
 -- Four bytes for each chunk are always enough.
-pub always-room : (s : List ℕ) (room : ℕ) → trailer_outcome s ≡ Fits (shape_of s) → 4 * (shape_of s).c ≤ room → repair_answer s room ≡ Unlinked (length (unlinked s))
+pub always-room : (s : List ℕ) (room : ℕ) → trailer_outcome s ≡ Ok (shape_of s) → 4 * (shape_of s).c ≤ room → repair_answer s room ≡ Ok (length (unlinked s))
 always-room s room t h =
     answers s room (length (unlinked s)) (record { trailer = t; count = refl; enough = omega (arith, unlinked-few s) })
 
 -- "A refusal changes nothing lent."
-pub refusal-changes-nothing : (s out : List ℕ) (r : Refusal) → repair_answer s (length out) ≡ Refused r
+pub refusal-changes-nothing : (s out : List ℕ) (r : Refusal) → repair_answer s (length out) ≡ Err r
     → (repair_image s (length out) ≡ s) × (repair_list s out ≡ out)
 refusal-changes-nothing s out r e =
-    (ap (λ (a : Repaired). unless_refused a (repaired s) s) e, ap (λ (a : Repaired). unless_refused a (listing s out) out) e)
+    (ap (λ (a : Result ℕ Refusal). unless_refused a (repaired s) s) e, ap (λ (a : Result ℕ Refusal). unless_refused a (listing s out) out) e)
 
 -- ---- what a repair leaves
 
-module _ (s : List ℕ) (room n : ℕ) (e : repair_answer s room ≡ Unlinked n) where
+module _ (s : List ℕ) (room n : ℕ) (e : repair_answer s room ≡ Ok n) where
   answered-on : On (shape_of s) s
   answered-on = fits_on s (shape_of s) (answered s room n e).trailer
 
   left-image : repair_image s room ≡ repaired s
-  left-image = ap (λ (r : Repaired). unless_refused r (repaired s) s) e
+  left-image = ap (λ (r : Result ℕ Refusal). unless_refused r (repaired s) s) e
 
   left-tested : Tested (repair_image s room)
   left-tested = subst Tested (sym left-image) (orderly-tested (repaired-orderly s answered-on))
@@ -150,9 +147,9 @@ list_bytes-nil : (out : List ℕ) → list_bytes [] ++ drop 0 out ≡ out
 unfolding list_bytes joined
 list_bytes-nil out = refl
 
-module _ (s out : List ℕ) (n : ℕ) (e : repair_answer s (length out) ≡ Unlinked n) where
+module _ (s out : List ℕ) (n : ℕ) (e : repair_answer s (length out) ≡ Ok n) where
   left-list : repair_list s out ≡ listing s out
-  left-list = ap (λ (r : Repaired). unless_refused r (listing s out) out) e
+  left-list = ap (λ (r : Result ℕ Refusal). unless_refused r (listing s out) out) e
 
   left-count : length (unlinked s) ≡ n
   left-count = sym (answered s (length out) n e).count
@@ -181,7 +178,7 @@ module _ (s out : List ℕ) (n : ℕ) (e : repair_answer s (length out) ≡ Unli
 -- ---- "a sound image comes back unchanged with an empty list, and a second repair changes nothing"
 
 pub record Unchanged (s out : List ℕ) : Type 0 where
-  pub answer : repair_answer s (length out) ≡ Unlinked 0
+  pub answer : repair_answer s (length out) ≡ Ok 0
   pub image : repair_image s (length out) ≡ s
   pub list : repair_list s out ≡ out
 
@@ -191,9 +188,9 @@ tested-unchanged s out z =
     let a = answers s (length out) 0 (record { trailer = on_fits s z.long z.known z.fitting; count = sym (ap length none); enough = omega arith }) in
     record {
       answer = a;
-      image = ap (λ (r : Repaired). unless_refused r (repaired s) s) a ∙ tested-same s z;
+      image = ap (λ (r : Result ℕ Refusal). unless_refused r (repaired s) s) a ∙ tested-same s z;
       list =
-          ap (λ (r : Repaired). unless_refused r (listing s out) out) a
+          ap (λ (r : Result ℕ Refusal). unless_refused r (listing s out) out) a
           ∙ ap (λ (xs : List ℕ). list_bytes xs ++ drop (4 * length xs) out) none
           ∙ list_bytes-nil out;
     }
@@ -201,11 +198,11 @@ tested-unchanged s out z =
 pub sound-unchanged : (g : Shape) (s out : List ℕ) → Sound g s → Unchanged s out
 sound-unchanged g s out z = tested-unchanged s out (sound-tested g s z)
 
-pub repaired-unchanged : (s out next : List ℕ) (n : ℕ) → repair_answer s (length out) ≡ Unlinked n → Unchanged (repair_image s (length out)) next
+pub repaired-unchanged : (s out next : List ℕ) (n : ℕ) → repair_answer s (length out) ≡ Ok n → Unchanged (repair_image s (length out)) next
 repaired-unchanged s out next n e = tested-unchanged (repair_image s (length out)) next (left-tested s (length out) n e)
 
 -- And only of a sound image is the list empty.
-pub none-is-sound : (s : List ℕ) (room : ℕ) → Bytes s → repair_answer s room ≡ Unlinked 0 → Sound (shape_of s) s
+pub none-is-sound : (s : List ℕ) (room : ℕ) → Bytes s → repair_answer s room ≡ Ok 0 → Sound (shape_of s) s
 unfolding repaired unlink
 none-is-sound s room b e =
     let none = no-numbers (unlinked s) (sym (answered s room 0 e).count) in

@@ -1,16 +1,14 @@
 -- The repair of a damaged image (02, request 3): which chunks it unlinks, what it answers, and every byte of the image and of the lent list afterwards.
-use Rattle.std.specs.Prelude.{ℕ, ◌*◌, Bool, not, ◌&&◌, ◌||◌, cond, List, [], ◌∷◌, ◌++◌, length, drop, eqb, ltb}
+use Rattle.std.specs.Prelude.{ℕ, ◌*◌, Bool, not, ◌&&◌, ◌||◌, cond, List, [], ◌∷◌, ◌++◌, length, drop, eqb, ltb, Result, Ok, Err}
 use Rattle.search.specs.Search.{below, any, keep, distinct, joined}
 use Rattle.words.specs.Words.{digits}
 use Rattle.layout.specs.declared.Refusal.TheVariants.{Small}
-use Rattle.layout.specs.declared.Trailer.{Trailer}
-use Rattle.layout.specs.declared.Trailer.TheVariants.{Fits, Refused as TrailerRefused}
 use Rattle.layout.specs.Trailer.{trailer_outcome}
 use Rattle.layout.specs.Layout.{X, shape_of, put_word}
 use Rattle.image.specs.Soundness.{units_of}
 use Rattle.image.specs.Verdicts.{good_link, good_map, clash}
-use Rattle.repair.specs.declared.Repaired.{Repaired}
-use Rattle.repair.specs.declared.Repaired.TheVariants.{Unlinked, Refused}
+use Rattle.layout.specs.declared.Refusal.{Refusal}
+use Rattle.layout.specs.declared.Shape.{Shape}
 
 -- ---- the chunks that are unlinked
 
@@ -64,22 +62,22 @@ listing s out = list_bytes (unlinked s) ++ drop (number_bytes * length (unlinked
 
 -- 10 "lent output too short", with the "bytes needed" for the whole list; else how many chunks are unlinked. Just enough room is enough, and an empty list
 -- needs none.
-unfoldable pub if_room : ℕ → ℕ → Repaired
-if_room room count = cond (ltb room (number_bytes * count)) (Refused (Small (number_bytes * count))) (Unlinked count)
+unfoldable pub if_room : ℕ → ℕ → Result ℕ Refusal
+if_room room count = cond (ltb room (number_bytes * count)) (Err (Small (number_bytes * count))) (Ok count)
 
 -- "Answers 1 to 3 still refuse": of an image whose trailer is refused, or what is answered of the rest
-abbrev pub if_shaped : Trailer → Repaired → Repaired
-if_shaped (Fits g) answer = answer
-if_shaped (TrailerRefused r) answer = Refused r
+abbrev pub if_shaped : Result Shape Refusal → Result ℕ Refusal → Result ℕ Refusal
+if_shaped (Ok g) answer = answer
+if_shaped (Err r) answer = Err r
 
 -- of any bytes, with `room` bytes lent for the list
-unfoldable pub repair_answer : List ℕ → ℕ → Repaired
+unfoldable pub repair_answer : List ℕ → ℕ → Result ℕ Refusal
 repair_answer s room = if_shaped (trailer_outcome s) (if_room room (length (unlinked s)))
 
 -- "A refusal changes nothing lent": what is there after an answer, and what was there before
-abbrev pub unless_refused : Repaired → List ℕ → List ℕ → List ℕ
-unless_refused (Unlinked n) after before = after
-unless_refused (Refused r) after before = before
+abbrev pub unless_refused : Result ℕ Refusal → List ℕ → List ℕ → List ℕ
+unless_refused (Ok n) after before = after
+unless_refused (Err r) after before = before
 
 -- the image afterwards
 abbrev pub repair_image : List ℕ → ℕ → List ℕ

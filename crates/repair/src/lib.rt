@@ -15,10 +15,3 @@ const CHUNK_SET_WORDS: usize = 4;
 const FIRST_MAP_CLAIM: usize = 64 * UNIT_SET_WORDS;
 
 const CLAIM_WORDS: usize = UNIT_SET_WORDS + MAP_SET_WORDS;
-
-// What a repair answers: how many chunks it unlinked, or a refusal.
-#[derive(Clone, Copy)]
-pub enum Repaired {
-    Unlinked(u32),
-    Refused(Refusal),
-}

@@ -5,11 +5,12 @@ ghost use Rattle.bitset.specs.Bits.{limit, in_set, members};
 ghost use Rattle.layout.specs.Shaped.{Shaped};
 ghost use Rattle.repair.specs.Repair.{unlinked, unlink, repaired, list_bytes, listing, if_room, repair_answer, unless_refused, repair_image, repair_list};
 
+use crate::CHUNK_SET_WORDS;
 use crate::faults::find_faults;
-use crate::{CHUNK_SET_WORDS, Repaired};
 use bitset::{count, next_member};
+use image::Image;
 use layout::trailers::check_trailer;
-use layout::{ABSENT, Refusal, Shape, Trailer};
+use layout::{ABSENT, Refusal, Shape};
 use loader::survey::passes;
 
 // The bytes of a chunk number in the list.
@@ -23,18 +24,16 @@ fn unlink_members(image: &mut [u8], out: &mut [u8], faulty: &[u64], n: usize)
     ensures out_after { out.new ≡ sets out.old 0 (list_bytes (members faulty.now)) }
 {
     let mut from: usize = 0;
-    let mut k: usize = 0;
-    while k < n {
+    for k in 0..n {
         let i = next_member(faulty, from);
         words::put_u64(image, 8 * i, ABSENT);
         words::put_u32(out, NUMBER_BYTES * k, i as u32);
         from = i + 1;
-        k += 1;
     }
 }
 
 // The repair of an image whose trailer passes: refusal 10.
-fn repair_in(image: &mut [u8], g: Shape, out: &mut [u8]) -> Repaired
+fn repair_in(image: &mut [u8], g: Shape, out: &mut [u8]) -> Result<u32, Refusal>
     requires { Shaped image.old g }
     ensures value { result ≡ if_room (length out.old) (length (unlinked image.old)) }
     ensures image_after { image.new
@@ -44,29 +43,33 @@ fn repair_in(image: &mut [u8], g: Shape, out: &mut [u8]) -> Repaired
         (listing image.old out.old) out.old }
 {
     let mut faulty = [0u64; CHUNK_SET_WORDS];
-    find_faults(image, g, &mut faulty);
+    find_faults(
+        &Image {
+            bytes: image,
+            shape: g,
+        },
+        &mut faulty,
+    );
     let n = count(&faulty);
     if out.len() < NUMBER_BYTES * n {
-        return Repaired::Refused(Refusal::Small((NUMBER_BYTES * n) as u32));
+        return Err(Refusal::Small((NUMBER_BYTES * n) as u32));
     }
     unlink_members(image, out, &faulty, n);
-    Repaired::Unlinked(n as u32)
+    Ok(n as u32)
 }
 
 // Unlinks the chunks with a fault, and stores their numbers in `out`, a u32 each, rising: refusals 1 to 3 and 10. One pass tells a sound image, which has none.
-pub fn repair(image: &mut [u8], out: &mut [u8]) -> Repaired
+pub fn repair(image: &mut [u8], out: &mut [u8]) -> Result<u32, Refusal>
     ensures value { result ≡ repair_answer image.old (length out.old) }
     ensures image_after { image.new ≡ repair_image image.old (length out.old) }
     ensures out_after { out.new ≡ repair_list image.old out.old }
 {
-    let t = check_trailer(image);
-    match t {
-        Trailer::Fits(g) => {
-            if passes(image, g) {
-                return Repaired::Unlinked(0);
-            }
-            repair_in(image, g, out)
-        }
-        Trailer::Refused(r) => Repaired::Refused(r),
+    let g = check_trailer(image)?;
+    if passes(&Image {
+        bytes: image,
+        shape: g,
+    }) {
+        return Ok(0);
     }
+    repair_in(image, g, out)
 }

@@ -1,5 +1,6 @@
 -- Worked cases of the report and the alarm as one table, computed: document 01's with document 02's figure of what is saved, and the edges of
 -- row 12 and of the comparisons.
+use Rattle.std.specs.Prelude.{Result, Ok, Err, ⊤}
 use Prim.Native.Nat.{ℕ, ◌+◌, ◌-◌, ◌^◌}
 use mathlib.Core.Path.{◌≡◌, refl}
 use mathlib.Core.Bool.{Bool, true, false}
@@ -11,19 +12,18 @@ use Rattle.search.specs.Search.{from, all, any, keep, member, distinct, disjoint
 use Rattle.layout.specs.declared.Refusal.TheVariants.{Short, BadAlarm}
 use Rattle.layout.specs.Trailer.{trailer_outcome}
 use Rattle.layout.specs.Layout.{edition1, edition2, is_unit, map_words, added_bytes, tagged_at, known_as, edition_of, spare_zero, fresh, put_word, trailer_of, shape_bytes, size_bytes, known, fitting, within_limits, max_reserved, reserved_at, agreeing, shape_of, words_of}
-use Rattle.image.specs.declared.Verdict.{Verdict}
-use Rattle.image.specs.declared.Verdict.TheVariants.{Passed, Refused as Unsound}
 use Rattle.image.specs.Soundness.{leading, units_of}
 use Rattle.image.specs.Verdicts.{verdict, chunk_verdict, bad_link, bad_map, double_claim, first_claim, contested, clash, well_formed, size_fits, good_form}
 use Rattle.image.specs.Free.{free_unit, free_units, held_units}
 use Rattle.image.proofs.Cases.{small, third}
 use Rattle.report.specs.declared.Alarm.{Alarm}
-use Rattle.report.specs.declared.Alarm.TheVariants.{Sounds, Silent, Refused}
+use Rattle.report.specs.declared.Alarm.TheVariants.{Sounds, Silent}
 use Rattle.report.specs.declared.Level.{Level}
 use Rattle.report.specs.declared.Level.TheVariants.{Count, Fraction}
 use Rattle.report.specs.Counts.{mapped_count}
 use Rattle.report.specs.Reports.{ratio, report_of, report_answer}
 use Rattle.report.specs.Alarms.{alarm_at, alarm_answer}
+use Rattle.layout.specs.declared.Refusal.{Refusal}
 
 -- one chunk that holds all of four units
 abbrev pub full : List ℕ
@@ -79,12 +79,13 @@ seven_eighths = fin false 7 (negsuc 2)
 -- ---- the table
 
 pub data Case : Type 0 where
-  Reports : List ℕ → Verdict → ℕ → ℕ → ℕ → ℕ → Float → Float → Case
-  Alarms : List ℕ → Level → Alarm → Case
+  Reports : List ℕ → ℕ → ℕ → ℕ → ℕ → Float → Float → Case
+  Refuses : List ℕ → Refusal → Case
+  Alarms : List ℕ → Level → Result Alarm Refusal → Case
 
 abbrev pub Right : Case → Type 0
-Right (Reports s v m h f d x y) =
-    report_answer s ≡ record { verdict = v; report = record { mapped = m; held = h; free = f; saved = d; held_ratio = x; saved_ratio = y } }
+Right (Reports s m h f d x y) = report_answer s ≡ Ok (record { mapped = m; held = h; free = f; saved = d; held_ratio = x; saved_ratio = y })
+Right (Refuses s r) = report_answer s ≡ Err r
 Right (Alarms s level a) = alarm_answer s level ≡ a
 
 abbrev pub AllRight : List Case → Type 0
@@ -94,47 +95,47 @@ AllRight (k ∷ ks) = Right k × AllRight ks
 abbrev pub table : List Case
 table =
     -- mapped, held, free, saved, held/N, saved/(mapped·P): 4/20 and 4/8, "4 saved and 0.5, where the old rule gave 12 and 0.75"
-    Reports third Passed 2 4 16 4 fifth half
+    Reports third 2 4 16 4 fifth half
     -- "the ratio is 0.0 when nothing is mapped"
-    ∷ Reports (fresh small) Passed 0 0 20 0 (zero false) (zero false)
+    ∷ Reports (fresh small) 0 0 20 0 (zero false) (zero false)
     -- 1/10 and 4/5: a chunk that is not mapped counts for nothing
-    ∷ Reports single Passed 1 1 9 4 tenth four_fifths
+    ∷ Reports single 1 1 9 4 tenth four_fifths
     -- stored raw
-    ∷ Reports full Passed 1 4 0 0 one (zero false)
+    ∷ Reports full 1 4 0 0 one (zero false)
     -- reserved units are neither held nor free, and the held ratio is still of N: 4/20
-    ∷ Reports reserved Passed 1 4 4 0 fifth (zero false)
+    ∷ Reports reserved 1 4 4 0 fifth (zero false)
     -- no image
-    ∷ Reports [] (Unsound Short) 0 0 0 0 (zero false) (zero false)
+    ∷ Refuses [] Short
     -- "Free 16 of 20: fraction 0.75 silent, 0.875 sounds"
-    ∷ Alarms third (Fraction three_quarters) Silent
-    ∷ Alarms third (Fraction seven_eighths) Sounds
+    ∷ Alarms third (Fraction three_quarters) (Ok Silent)
+    ∷ Alarms third (Fraction seven_eighths) (Ok Sounds)
     -- free 4, and half of N is 10, of the units that are not reserved 4
-    ∷ Alarms reserved (Fraction half) Sounds
-    ∷ Alarms reserved (Count 4) Silent
-    ∷ Alarms reserved (Count 5) Sounds
+    ∷ Alarms reserved (Fraction half) (Ok Sounds)
+    ∷ Alarms reserved (Count 4) (Ok Silent)
+    ∷ Alarms reserved (Count 5) (Ok Sounds)
     -- the product is rounded, here to 16, before it is compared
-    ∷ Alarms third (Fraction four_fifths) Silent
+    ∷ Alarms third (Fraction four_fifths) (Ok Silent)
     -- below, not at, the level
-    ∷ Alarms third (Count 16) Silent
-    ∷ Alarms third (Count 17) Sounds
-    ∷ Alarms (fresh small) (Fraction one) Silent
-    ∷ Alarms third (Fraction one) Sounds
+    ∷ Alarms third (Count 16) (Ok Silent)
+    ∷ Alarms third (Count 17) (Ok Sounds)
+    ∷ Alarms (fresh small) (Fraction one) (Ok Silent)
+    ∷ Alarms third (Fraction one) (Ok Sounds)
     -- any count is a level
-    ∷ Alarms full (Count 0) Silent
-    ∷ Alarms third (Count (2 ^ 64 - 1)) Sounds
+    ∷ Alarms full (Count 0) (Ok Silent)
+    ∷ Alarms third (Count (2 ^ 64 - 1)) (Ok Sounds)
     -- neither zero sounds, even where nothing is free; the least fraction above 0 does there
-    ∷ Alarms full (Fraction (zero false)) Silent
-    ∷ Alarms full (Fraction (zero true)) Silent
-    ∷ Alarms full (Fraction (least false)) Sounds
-    ∷ Alarms third (Fraction (least false)) Silent
+    ∷ Alarms full (Fraction (zero false)) (Ok Silent)
+    ∷ Alarms full (Fraction (zero true)) (Ok Silent)
+    ∷ Alarms full (Fraction (least false)) (Ok Sounds)
+    ∷ Alarms third (Fraction (least false)) (Ok Silent)
     -- not a number, below 0, above 1
-    ∷ Alarms third (Fraction nan) (Refused BadAlarm)
-    ∷ Alarms third (Fraction (least true)) (Refused BadAlarm)
-    ∷ Alarms third (Fraction above_one) (Refused BadAlarm)
-    ∷ Alarms third (Fraction (inf false)) (Refused BadAlarm)
-    ∷ Alarms third (Fraction (inf true)) (Refused BadAlarm)
+    ∷ Alarms third (Fraction nan) (Err BadAlarm)
+    ∷ Alarms third (Fraction (least true)) (Err BadAlarm)
+    ∷ Alarms third (Fraction above_one) (Err BadAlarm)
+    ∷ Alarms third (Fraction (inf false)) (Err BadAlarm)
+    ∷ Alarms third (Fraction (inf true)) (Err BadAlarm)
     -- the image's refusal comes first
-    ∷ Alarms [] (Fraction nan) (Refused Short)
+    ∷ Alarms [] (Fraction nan) (Err Short)
     ∷ []
 
 pub cases-right : AllRight table

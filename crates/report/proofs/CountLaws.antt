@@ -1,4 +1,4 @@
--- How many units mapped chunks hold, the report as src/reports.rt makes it, and the report and the alarm of a sound image by its sets of what is free.
+-- How many units mapped chunks hold, and the report and the alarm of a sound image by its sets of what is free.
 use Prim.Native.Nat.{ℕ, ◌-◌, ◌*◌, ◌≤◌}
 use native.Mathlib.Omega.{arith}
 use mathlib.Core.Path.{◌≡◌, refl, ap, ◌∙◌}
@@ -53,22 +53,6 @@ module _ (s : List ℕ) where
   pub mapped-most : mapped_count s ≤ (shape_of s).c
   unfolding mapped_count
   mapped-most = let a = keep-few (mapped s) (below (shape_of s).c) in let b = length_from 0 (shape_of s).c in omega arith
-
--- ---- the report of any counts, as src/reports.rt makes it
-
-module _ (g : Shape) (mapped free held saved : ℕ) (eh : held ≡ g.n - g.r - free) (es : saved ≡ mapped * g.p - held) where
-  pub report-made :
-      (hr sr : Float) → hr ≡ ratio held g.n → sr ≡ ratio_if_mapped mapped saved (mapped * g.p)
-      → ◌≡◌ {A = Report} (record {
-        mapped = mapped;
-        held = held;
-        free = free;
-        saved = saved;
-        held_ratio = hr;
-        saved_ratio = sr;
-      }) (report_from g mapped free)
-  unfolding report_from
-  report-made hr sr er ep = rw (er, ep, es, eh)
 
 -- ---- of a sound image: what its sets of what is free count
 

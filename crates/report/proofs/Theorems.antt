@@ -1,4 +1,5 @@
 -- The theorems of this crate that a reader wants, on any sound image s of shape g and on the fresh one: nothing else cites them.
+use Rattle.std.specs.Prelude.{Ok}
 use Prim.Native.Nat.{ℕ, ◌+◌, ◌-◌, ◌*◌, ◌≤◌, ◌<◌}
 use native.Mathlib.Nat.{zero-mul, mul-pos, eq-zero-or-pos}
 use native.Mathlib.Omega.{arith}
@@ -17,12 +18,10 @@ use Rattle.search.proofs.Ranges.{member_below}
 use Rattle.search.proofs.Kept.{keep-none}
 use Rattle.layout.specs.declared.Shape.{Shape}
 use Rattle.layout.specs.Layout.{max_units, shape_of, fresh}
-use Rattle.layout.specs.declared.Formatted.TheVariants.{Done}
 use Rattle.layout.specs.Format.{format_answer, format_image}
 use Rattle.layout.specs.Shaped.{Limits}
 use Rattle.layout.proofs.Limits.{limits, product_high, units-high}
 use Rattle.layout.proofs.Formatting.{formatted}
-use Rattle.image.specs.declared.Verdict.TheVariants.{Passed}
 use Rattle.image.specs.Soundness.{mapped, Sound}
 use Rattle.image.specs.Verdicts.{verdict}
 use Rattle.image.proofs.Chunks.{not-mapped}
@@ -34,7 +33,7 @@ use Rattle.report.specs.declared.Report.{Report}
 use Rattle.report.specs.declared.Alarm.TheVariants.{Silent}
 use Rattle.report.specs.declared.Level.TheVariants.{Fraction}
 use Rattle.report.specs.Counts.{mapped_count, held_count, free_count}
-use Rattle.report.specs.Reports.{zero64, ratio_if_mapped, report_of, passed_report, report_answer}
+use Rattle.report.specs.Reports.{zero64, ratio_if_mapped, report_of, report_answer}
 use Rattle.report.specs.Alarms.{bad_fraction, sounds_if, alarm_at, alarm_answer}
 use Rattle.report.proofs.CountLaws.{held-most, held-least, mapped-most}
 use Rattle.report.proofs.Rounded.{Share, count-exact, ratio-rounds, ratio-share, ratio-none, product-rounds, zero-product}
@@ -77,7 +76,7 @@ good-zero true = refl
 good-zero false = refl
 
 module _ (g : Shape) (s : List ℕ) (z : Sound g s) where
-  passed : verdict s ≡ Passed
+  passed : verdict s ≡ Ok tt
   passed = tested-passed s (sound-tested g s z)
 
   most : held_count s ≤ mapped_count s * g.p
@@ -93,28 +92,29 @@ module _ (g : Shape) (s : List ℕ) (z : Sound g s) where
   counted = free-and-held s (sound-tested g s z) ∙ ap (λ (h : Shape). h.n - h.r) (sound-shape g s z)
 
   -- The report of a sound image has such figures.
-  pub report-figures : Figures g (report_answer s).report
+  pub report-figures : (report_answer s ≡ Ok (report_of s)) × Figures g (report_of s)
   unfolding report_of
   report-figures =
       let m = mapped_count s in
       let h = held_count s in
       let l = z.limits in
       let u = counted in
-      let n = units-high g l in
-      rw (passed, sound-shape g s z)
-      (record {
-        units = omega arith;
-        chunks = omega (arith, most);
-        some = held-least s (sound-tested g s z);
-        held-rounded = ratio-rounds h g.n (omega arith) (omega arith) (omega arith);
-        saved-rounded = saved-some m g.p h l.p-low most fits;
-        saved-nothing = λ e. rw (eq-eqb m 0 e);
-        held_share = ratio-share h g.n (omega arith) (omega arith) (omega arith);
-        saved-share = saved-shares m g.p h l.p-low most fits;
-      })
+      let n = units-high g l in (
+        rw passed,
+        rw (sound-shape g s z) (record {
+          units = omega arith;
+          chunks = omega (arith, most);
+          some = held-least s (sound-tested g s z);
+          held-rounded = ratio-rounds h g.n (omega arith) (omega arith) (omega arith);
+          saved-rounded = saved-some m g.p h l.p-low most fits;
+          saved-nothing = λ e. rw (eq-eqb m 0 e);
+          held_share = ratio-share h g.n (omega arith) (omega arith) (omega arith);
+          saved-share = saved-shares m g.p h l.p-low most fits;
+        }),
+      )
 
   -- Where nothing is mapped, nothing is held and nothing saved.
-  pub unmapped-report : mapped_count s ≡ 0 → report_answer s ≡ passed_report (empty_report (g.n - g.r))
+  pub unmapped-report : mapped_count s ≡ 0 → report_answer s ≡ Ok (empty_report (g.n - g.r))
   unfolding report_of
   unmapped-report e =
       let u = counted in
@@ -135,7 +135,7 @@ module _ (g : Shape) (s : List ℕ) (z : Sound g s) where
       rw (passed, good, sound-shape g s z, product-rounds x g.n p (omega arith) (omega arith))
 
   -- Neither 0.0 nor -0.0 is refused, and neither sounds, even where nothing is free.
-  pub zero-silent : (b : Bool) → alarm_answer s (Fraction (fin b 0 (pos 0))) ≡ Silent
+  pub zero-silent : (b : Bool) → alarm_answer s (Fraction (fin b 0 (pos 0))) ≡ Ok Silent
   unfolding alarm_at
   zero-silent b =
       let n = units-high g z.limits in
@@ -152,7 +152,7 @@ none-mapped g l =
     not-mapped (fresh g) i (absent-fresh g l i (let b = member_below i (shape_of (fresh g)).c m in omega arith))))
 
 -- A fresh volume saves nothing.
-pub fresh-report : (g : Shape) (s : List ℕ) → format_answer g s ≡ Done → report_answer (format_image g s) ≡ passed_report (empty_report (g.n - g.r))
+pub fresh-report : (g : Shape) (s : List ℕ) → format_answer g s ≡ Ok tt → report_answer (format_image g s) ≡ Ok (empty_report (g.n - g.r))
 fresh-report g s d =
     let f = formatted g s d in
     let l = limits g f.0 in

@@ -1,16 +1,14 @@
 -- The report: "one record of four counts and two ratios".
-use Rattle.std.specs.Prelude.{ℕ, ◌-◌, ◌*◌, Bool, false, cond, List, length, eqb, pos, Float}
+use Rattle.std.specs.Prelude.{ℕ, ◌-◌, ◌*◌, Bool, false, cond, List, length, eqb, pos, Float, Result, Ok, Err}
 use Rattle.std.specs.Float.{fin, binary64}
 use Rattle.std.specs.Float.Ieee.{div, of_int}
 use Rattle.search.specs.Search.{below, keep}
 use Rattle.layout.specs.declared.Refusal.{Refusal}
 use Rattle.layout.specs.declared.Shape.{Shape}
 use Rattle.layout.specs.Layout.{shape_of}
-use Rattle.image.specs.declared.Verdict.TheVariants.{Passed, Refused}
 use Rattle.image.specs.Verdicts.{verdict}
 use Rattle.image.specs.Answers.{if_sound}
 use Rattle.report.specs.declared.Report.{Report}
-use Rattle.report.specs.declared.Reported.{Reported}
 use Rattle.report.specs.Counts.{mapped_count, held_count, free_count, raw_count, saved_count}
 
 -- the float +0.0
@@ -63,17 +61,6 @@ report_from g mapped free =
 unfoldable pub report_on : Shape → (ℕ → Bool) → (ℕ → Bool) → Report
 report_on g free_unit free_map = report_from g (g.m - length (keep free_map (below g.m))) (length (keep free_unit (below g.n)))
 
--- the answer for a sound image
-abbrev pub passed_report : Report → Reported
-passed_report x = record { verdict = Passed; report = x }
-
--- the answer for any other: "what it returns besides number and place is 0"
-abbrev pub refused_report : Refusal → Reported
-refused_report r = record {
-  verdict = Refused r;
-  report = record { mapped = 0; held = 0; free = 0; saved = 0; held_ratio = zero64; saved_ratio = zero64 };
-}
-
 -- what `report` answers
-abbrev pub report_answer : List ℕ → Reported
-report_answer s = if_sound (verdict s) refused_report (passed_report (report_of s))
+abbrev pub report_answer : List ℕ → Result Report Refusal
+report_answer s = if_sound (verdict s) Err (Ok (report_of s))

@@ -4,7 +4,6 @@
 pub mod alarms;
 pub mod reports;
 
-use image::Verdict;
 use layout::Refusal;
 
 // Mapped chunks, held, free and saved units, held / N and saved / (mapped * P). Saved units are mapped * P less held; the last ratio is 0.0 when
@@ -19,13 +18,6 @@ pub struct Report {
     pub saved_ratio: f64,
 }
 
-// What `report` answers: the verdict on the image and, of a sound one, its report. Otherwise the report is all 0.
-#[derive(Clone, Copy)]
-pub struct Reported {
-    pub verdict: Verdict,
-    pub report: Report,
-}
-
 // An alarm level: a count of free units, or a fraction of N.
 #[derive(Clone, Copy)]
 pub enum Level {
@@ -38,5 +30,4 @@ pub enum Level {
 pub enum Alarm {
     Sounds,
     Silent,
-    Refused(Refusal),
 }

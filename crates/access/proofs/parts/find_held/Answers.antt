@@ -1,28 +1,15 @@
--- `access::parts::find_held` meets its contract: the refusal of the image, with no part, or what `held_on` answers.
-use mathlib.Core.Path.{◌∙◌, sym}
-use native.Mathlib.Omega.{arith}
+-- `access::parts::find_held` meets its contract: the refusal of the image, or what `held_on` answers.
+use mathlib.Core.Path.{refl, ◌∙◌}
+use Rattle.std.proofs.lemmas.Result.{err_from_is_err_and}
 use Rattle.image.proofs.Loads.{outcome-answer-refused, outcome-answer-sound, outcome-known}
-use Rattle.access.proofs.PartLaws.{held-judged, known-link}
+use Rattle.access.specs.Parts.{held_on}
+use Rattle.access.proofs.PartLaws.{known-link}
 use Rattle.access.proofs.parts.find_held.Goals as goal
+
+pub invariant_of-held_on : goal.invariant_of-held_on
+invariant_of-held_on c = record { shaped = (outcome-known c.args.image.now _ c.in_ok-shape.ensures _ refl).shaped }
 
 pub held_on-requires : goal.held_on-requires
 held_on-requires c =
     let s = c.args.image.now in
-    let k = outcome-known s _ c.check_image-o.ensures _ c.in-Sound.is in record {
-      shaped = k.shaped;
-      chunk_value = known-link s _ k c.args.chunk;
-    }
-
-pub returns-in-Refused : goal.returns-in-Refused
-returns-in-Refused c =
-    let a = c.args in
-    let e = c.denied.ensures in
-    let answer = outcome-answer-refused a.image.now _ c.check_image-o.ensures _ _ _ c.in-Refused.is in
-    (e ∙ answer ∙ sym (held-judged a.image.now a.chunk), rw e (omega arith), rw e (omega arith))
-
-pub returns-in-Sound : goal.returns-in-Sound
-returns-in-Sound c =
-    let a = c.args in
-    let h = c.held_on.ensures in
-    let answer = outcome-answer-sound a.image.now _ c.check_image-o.ensures _ _ _ c.in-Sound.is in
-    (h.0 ∙ answer ∙ sym (held-judged a.image.now a.chunk), h.1, h.2)
+    record { chunk_value = known-link s _ (outcome-known s _ c.in_ok-shape.ensures _ refl) c.args.chunk }

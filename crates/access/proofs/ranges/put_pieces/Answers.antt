@@ -1,27 +1,18 @@
-use mathlib.Core.Path.{refl, ◌∙◌}
-use native.Mathlib.Omega.{arith}
-use Rattle.access.proofs.PieceLaws.{touched, store-start, store-turn, store-end}
+-- `access::ranges::put_pieces` meets its contract.
+use Rattle.access.proofs.PieceLaws.{store-start, store-turn, store-end}
 use Rattle.access.proofs.ranges.put_pieces.Goals as goal
 
 pub loop-k-init : goal.loop-k-init
 loop-k-init c =
-    (omega arith, (refl, store-start c.args.b c.args.lo c.args.hi c.args.first c.args.count c.args.out.now c.requires.first_value.0 c.requires.first_value.1))
-
-pub piece_of-x-requires : goal.piece_of-x-requires
-piece_of-x-requires c =
-    let t = touched c.args.b c.args.lo c.args.hi c.args.first c.args.count c.loop-k.k c.requires.hi_le_max_volume_bytes.1 c.requires.hi_le_max_volume_bytes.3 c.requires.first_value.0 c.requires.first_value.1 (omega arith) in
-    omega arith
+    let a = c.args.bytes in
+    store-start a.b a.lo a.hi _ c.args.count c.args.out.now c.first_chunk-first.ensures c.requires.0
 
 pub loop-k-preserved : goal.loop-k-preserved
 loop-k-preserved c =
-    let a = c.args in
-    let t = store-turn a.b a.lo a.hi a.first a.count _ _ _ c.loop-k.k c.piece_of-x.result (omega arith) c.piece_of-x.ensures c.put_piece.ensures c.loop-k.invariant.1.1 in
-    (omega arith, (t.0 ∙ c.loop-k.invariant.1.0, t.1))
-
-pub shape_of-out : goal.shape_of-out
-shape_of-out c = c.loop-k.invariant.1.0
+    let a = c.args.bytes in
+    store-turn a.b a.lo a.hi _ c.args.count _ _ _ c.loop-k.k _ c.loop-k-test.true c.piece.ensures c.put_piece.ensures c.loop-k.invariant
 
 pub returns : goal.returns
 returns c =
-    let a = c.args in
-    store-end a.b a.lo a.hi a.first a.count _ _ c.loop-k.k (omega arith) c.loop-k.invariant.1.1
+    let a = c.args.bytes in
+    store-end a.b a.lo a.hi _ c.args.count _ _ c.loop-k.k c.loop-k-test.false c.loop-k.invariant

@@ -11,39 +11,31 @@ use native.Mathlib.Omega.{arith}
 use Rattle.access.proofs.sizes.size_in.Goals as goal
 
 pub returns-then-w : goal.returns-then-w
-returns-then-w c = size-absent c.args.image.now c.args.g c.args.i _ c.requires.shaped c.link-w.ensures c.if-w.true
-
-pub held_count-requires : goal.held_count-requires
-held_count-requires c =
-    let named = c.if-w.false in record {
-      shaped = c.requires.shaped;
-      k_lt_m = map-named c.args.image.now c.args.g c.args.i _ c.requires.shaped c.link-w.ensures named c.requires.i_lt_c.1;
-    }
+returns-then-w c =
+    let s = c.args.image.now in
+    size-absent s.bytes.now s.shape c.args.i _ s.shaped c.link-w.ensures c.if-w.true
 
 pub overflow_mul-result : goal.overflow_mul-result
 overflow_mul-result c =
     let s = c.args.image.now in
     let k = c.link-w.result in
-    let few = length-leading (is_unit (shape_of s)) (unit_words_of s k) in
-    omega (arith, c.held_count.ensures, few, length-units_in s c.args.g k c.requires.shaped, c.requires.shaped.limits.p-high)
+    let few = length-leading (is_unit (shape_of s.bytes.now)) (unit_words_of s.bytes.now k) in
+    omega (arith, c.held_count.ensures, few, length-units_in s.bytes.now s.shape k s.shaped, s.shaped.limits.p-high)
 
 pub returns-then-head-eq0 : goal.returns-then-head-eq0
 returns-then-head-eq0 c =
-    let named = c.if-w.false in
+    let s = c.args.image.now in
     let bare = sym c.head.ensures.0 ∙ c.if-head-eq0.true in
-    size-counted c.args.image.now c.args.g c.args.i _ c.requires.shaped c.link-w.ensures named bare _ c.held_count.ensures
+    size-counted s.bytes.now s.shape c.args.i _ s.shaped c.link-w.ensures c.if-w.false bare _ c.held_count.ensures
 
 pub map_word-requires : goal.map_word-requires
 map_word-requires c =
-    let named = c.if-w.false in
-    let k = map-named c.args.image.now c.args.g c.args.i _ c.requires.shaped c.link-w.ensures named c.requires.i_lt_c.1 in record {
-      shaped = c.requires.shaped;
-      k_lt_m = (k, omega (arith, map-words c.args.g, c.requires.shaped.limits.p-low));
-    }
+    let s = c.args.image.now in
+    let k = map-named s.bytes.now s.shape c.args.i _ s.shaped c.link-w.ensures c.if-w.false c.requires.i_lt_c.1 in
+    record { k_lt_m = (k, omega (arith, map-words s.shape, s.shaped.limits.p-low)) }
 
 pub returns : goal.returns
 returns c =
-    let named = c.if-w.false in
-    let sized = c.head.ensures.0 in
-    c.map_word.ensures ∙ size-told c.args.image.now c.args.g c.args.i _ c.requires.shaped c.link-w.ensures named
-    (λ e. c.if-head-eq0.false (sized ∙ e))
+    let s = c.args.image.now in
+    c.map_word.ensures ∙ size-told s.bytes.now s.shape c.args.i _ s.shaped c.link-w.ensures c.if-w.false
+    (λ e. c.if-head-eq0.false (c.head.ensures.0 ∙ e))

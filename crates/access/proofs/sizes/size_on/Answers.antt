@@ -1,16 +1,13 @@
 -- `access::sizes::size_on` meets its contract: 7 is the test of the chunk's number, and the size is `size_in`'s.
-use Rattle.access.proofs.SizeLaws.{size_in, size-out}
+use Rattle.std.proofs.Common.{arith}
+use Rattle.std.proofs.lemmas.Bool.Decides.{nat_tests}
+use Rattle.access.specs.Sizes.{size_on}
 use Rattle.access.proofs.sizes.size_on.Goals as goal
 
-pub size_in-requires : goal.size_in-requires
-size_in-requires c = record {
-  shaped = c.requires.shaped;
-  i_lt_c = (c.if-chunk-g.true, c.requires.chunk_value c.if-chunk-g.true);
-}
-
-pub returns-then-chunk-g : goal.returns-then-chunk-g
-returns-then-chunk-g c =
-    size_in c.args.image.now c.args.g c.requires.shaped c.args.chunk c.if-chunk-g.true _ c.size_in.ensures
+pub returns-then-chunk-image : goal.returns-then-chunk-image
+unfolding size_on
+returns-then-chunk-image c = grind (arith, nat_tests)
 
 pub returns : goal.returns
-returns c = size-out c.args.image.now c.args.g c.requires.shaped c.args.chunk c.if-chunk-g.false
+unfolding size_on
+returns c = grind (arith, nat_tests)

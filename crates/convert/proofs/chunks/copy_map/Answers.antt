@@ -13,11 +13,10 @@ use Rattle.convert.proofs.chunks.copy_map.Goals.{Start}
 
 -- map k is one of the new image's, whose shape is within the limits
 fits : (c : Start) → Fits c.args.second c.args.k
-fits c = second_fits c.args.g c.args.second c.args.k c.requires.k_lt_m.1 c.requires.shaped.limits c.requires.k_lt_m.0
+fits c = second_fits c.args.image.now.shape c.args.second c.args.k c.requires.k_lt_m.1 c.args.image.now.shaped.limits c.requires.k_lt_m.0
 
 pub held_count-count-requires : goal.held_count-count-requires
 held_count-count-requires c = record {
-  shaped = c.requires.shaped;
   k_lt_m = c.requires.k_lt_m.0;
 }
 
@@ -51,7 +50,6 @@ overflow_mul-at c =
 
 pub second_word-requires : goal.second_word-requires
 second_word-requires c = record {
-  shaped = c.requires.shaped;
   k_lt_m = (c.requires.k_lt_m.0, c.held_count-count.ensures);
 }
 
@@ -61,22 +59,13 @@ put_u64-requires c =
     c.map_words-n.ensures.0 (omega arith) in
     omega (arith, inside, c.loop-j.invariant.1, c.requires.k_lt_m.2)
 
-pub overflow_add-j : goal.overflow_add-j
-overflow_add-j c = omega arith
-
-pub loop-j-smaller : goal.loop-j-smaller
-loop-j-smaller c = omega arith
-
 pub loop-j-preserved : goal.loop-j-preserved
 loop-j-preserved c = let l = c.loop-j in
     let at = c.map_word_place-at.result in
     let n = c.map_words-n.result in
     let put = c.put_u64.ensures ∙ ap (put_word l.out (at + l.j)) c.second_word.ensures in
-    let turn = puts-turn (second_word (held_in c.args.image.now c.args.k)) l.out at n l.j (omega arith) in
+    let turn = puts-turn (second_word (held_in c.args.image.now.bytes.now c.args.k)) l.out at n l.j (omega arith) in
     (omega arith, ap length put ∙ length-store 8 _ _ _ ∙ l.invariant.1, rw put (turn ∙ l.invariant.2))
-
-pub shape_of-out : goal.shape_of-out
-shape_of-out c = c.loop-j.invariant.1
 
 pub returns : goal.returns
 returns c = let l = c.loop-j in

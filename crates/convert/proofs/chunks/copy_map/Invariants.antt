@@ -10,7 +10,4 @@ use Rattle.convert.proofs.chunks.copy_map.Given as goal
 
 abbrev pub invariant-loop-j : goal.invariant-loop-j
 invariant-loop-j l = (l.j ≤ l.n) × (length l.out ≡ length l.initial.out)
-    × (put_words l.out (l.at + l.j) (map (second_word (held_in l.image l.k)) (from l.j (l.n - l.j))) ≡ put_words l.initial.out l.at (map (second_word (held_in l.image l.k)) (below l.n)))
-
-abbrev pub decreases-loop-j : goal.decreases-loop-j
-decreases-loop-j l = l.n - l.j
+    × (put_words l.out (l.at + l.j) (map (second_word (held_in l.image.bytes.now l.k)) (from l.j (l.n - l.j))) ≡ put_words l.initial.out l.at (map (second_word (held_in l.image.bytes.now l.k)) (below l.n)))

@@ -7,7 +7,8 @@ use Rattle.convert.proofs.Answering.{left_out, answer-refused, answer-sound}
 use Rattle.image.proofs.Loads.{outcome-refused, outcome-known}
 use Rattle.image.proofs.Verdicts.{first-verdict, first-foreign}
 use Rattle.image.specs.Verdicts.{verdict, first_verdict}
-use mathlib.Core.Path.{◌≡◌, ◌∙◌, sym, ap}
+use mathlib.Core.Path.{◌≡◌, ◌∙◌, sym, ap, refl}
+use Rattle.std.proofs.lemmas.Result.{err_from_is_err_and}
 use Rattle.convert.proofs.upgrade.convert.Goals as goal
 use Rattle.convert.proofs.upgrade.convert.Goals.{Else-not-reads_as_first}
 
@@ -24,30 +25,29 @@ returns-then-not-reads_as_first c =
 first : (c : Else-not-reads_as_first) → first_verdict c.args.image.now ≡ verdict c.args.image.now
 first c = first-verdict _ (sym c.reads_as_first.ensures ∙ c.if-not-reads_as_first.false)
 
-pub convert_in-requires : goal.convert_in-requires
-convert_in-requires c =
-    let o = c.check_image-o in
-    let k = outcome-known c.args.image.now _ o.ensures _ c.in-Sound.is in record {
-      shaped = k.shaped;
-      tested = k.sound;
-    }
+pub invariant_of-convert_in : goal.invariant_of-convert_in
+invariant_of-convert_in c = record { shaped = (outcome-known c.args.image.now _ c.in_ok-shape.ensures _ refl).shaped }
 
-pub returns-in-Refused : goal.returns-in-Refused
-returns-in-Refused c =
+pub convert_in-requires : goal.convert_in-requires
+convert_in-requires c = record { tested = (outcome-known c.args.image.now _ c.in_ok-shape.ensures _ refl).sound }
+
+pub returns-in_err-shape : goal.returns-in_err-shape
+returns-in_err-shape c =
     let s = c.args.image.now in
-    let v = outcome-refused s _ c.check_image-o.ensures _ c.in-Refused.is in
-    let e = answer-refused s (length c.args.out.now) _ (first (goal.at.returns-in-Refused c).Else-not-reads_as_first ∙ v) in record {
+    let p = err_from_is_err_and c.from_residual.result c.from_residual.ensures.1 in
+    let v = outcome-refused s _ c.in_err-shape.ensures _ refl in
+    let e = answer-refused s (length c.args.out.now) _ (first (goal.at.returns-in_err-shape c).Else-not-reads_as_first ∙ v) in
+    rw (p.1, p.2) (record {
       value = sym e;
       out_after = left_out s c.args.out.now _ _ (sym e);
-    }
+    })
 
-pub returns-in-Sound : goal.returns-in-Sound
-returns-in-Sound c =
+pub returns : goal.returns
+returns c =
     let s = c.args.image.now in
     let room = length c.args.out.now in
-    let o = c.check_image-o in
-    let k = outcome-known s _ o.ensures _ c.in-Sound.is in
-    let v = first (goal.at.returns-in-Sound c).Else-not-reads_as_first ∙ k.passed in
+    let k = outcome-known s _ c.in_ok-shape.ensures _ refl in
+    let v = first (goal.at.returns c).Else-not-reads_as_first ∙ k.passed in
     let e = ap (λ (g : Shape). if_exact room (image_bytes (second_of g))) k.shape ∙ sym (answer-sound s room v) in
     let r = c.convert_in.ensures in record {
       value = r.value ∙ e;

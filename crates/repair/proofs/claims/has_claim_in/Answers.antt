@@ -10,33 +10,31 @@ use Rattle.repair.proofs.claims.has_claim_in.Goals as goal
 use Rattle.repair.proofs.claims.has_claim_in.Goals.{Else-w}
 
 -- the map that a chunk with a good link names
-named : (c : Else-w) → c.link-w.result < c.args.g.m
+named : (c : Else-w) → c.link-w.result < c.args.image.now.shape.m
 named c =
-    map-named c.args.image.now c.args.g c.args.i _ c.requires.shaped c.link-w.ensures c.if-w.false c.requires.i_lt_c.1
+    map-named c.args.image.now.bytes.now c.args.image.now.shape c.args.i _ c.args.image.now.shaped c.link-w.ensures c.if-w.false c.requires.i_lt_c.1
 
 pub returns-then-w : goal.returns-then-w
 unfolding any
-returns-then-w c = sym (ap (any (in_set c.args.set.now)) (claims-absent c.args.image.now c.args.i _ c.link-w.ensures c.if-w.true))
+returns-then-w c = sym (ap (any (in_set c.args.set.now)) (claims-absent c.args.image.now.bytes.now c.args.i _ c.link-w.ensures c.if-w.true))
 
 pub overflow_add-k : goal.overflow_add-k
-overflow_add-k c = omega (arith, c.requires.shaped.limits, named (goal.at.overflow_add-k c).Else-w)
+overflow_add-k c = omega (arith, c.args.image.now.shaped.limits, named (goal.at.overflow_add-k c).Else-w)
 
 pub returns-then-contains : goal.returns-then-contains
 unfolding any
-returns-then-contains c = rw (claims-named c.args.image.now c.args.i _ c.link-w.ensures c.if-w.false, sym c.contains.ensures ∙ c.if-contains.true)
+returns-then-contains c = rw (claims-named c.args.image.now.bytes.now c.args.i _ c.link-w.ensures c.if-w.false, sym c.contains.ensures ∙ c.if-contains.true)
 
 pub held_count-count-requires : goal.held_count-count-requires
 held_count-count-requires c = record {
-  shaped = c.requires.shaped;
   k_lt_m = named (goal.at.held_count-count-requires c).Else-w;
 }
 
 pub has_unit_in-requires : goal.has_unit_in-requires
 has_unit_in-requires c = record {
-  shaped = c.requires.shaped;
   k_lt_m = (named (goal.at.has_unit_in-requires c).Else-w, c.held_count-count.ensures);
 }
 
 pub returns : goal.returns
 unfolding any
-returns c = rw (claims-named c.args.image.now c.args.i _ c.link-w.ensures c.if-w.false, sym c.contains.ensures ∙ c.if-contains.false) c.has_unit_in.ensures
+returns c = rw (claims-named c.args.image.now.bytes.now c.args.i _ c.link-w.ensures c.if-w.false, sym c.contains.ensures ∙ c.if-contains.false) c.has_unit_in.ensures

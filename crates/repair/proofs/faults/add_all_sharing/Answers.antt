@@ -9,18 +9,14 @@ use mathlib.Core.Path.{◌≡◌, sym, ap, ◌∙◌, subst}
 use Rattle.repair.proofs.faults.add_all_sharing.Goals as goal
 
 pub loop-j-init : goal.loop-j-init
-loop-j-init c = (omega arith, sharing-none c.args.image.now _ _ (ap (λ (g : Shape). g.c) c.requires.shaped.same) c.requires.faulty_value)
+loop-j-init c = (omega arith, sharing-none c.args.image.now.bytes.now _ _ (ap (λ (g : Shape). g.c) c.args.image.now.shaped.same) c.requires.faulty_value)
 
 pub add_sharing-requires : goal.add_sharing-requires
 add_sharing-requires c = record {
-  shaped = c.requires.shaped;
   i_lt_c = omega arith;
   again_value = c.requires.again_value;
   faulty_value = c.loop-j.invariant.1;
 }
-
-pub loop-j-smaller : goal.loop-j-smaller
-loop-j-smaller c = omega arith
 
 pub loop-j-preserved : goal.loop-j-preserved
 loop-j-preserved c = (omega arith, c.add_sharing.ensures)
@@ -29,5 +25,5 @@ pub shape_of-faulty : goal.shape_of-faulty
 shape_of-faulty c = ap length c.loop-j.invariant.1 ∙ length-bit_set _ chunk_set_words ∙ sym (ap length c.requires.faulty_value ∙ length-bit_set _ chunk_set_words)
 
 pub returns : goal.returns
-returns c = let e : c.loop-j.j ≡ c.args.g.c = omega arith in
-    subst (λ n. c.loop-j.faulty ≡ bit_set (unlinks_below c.args.image.now n) chunk_set_words) e c.loop-j.invariant.1
+returns c = let e : c.loop-j.j ≡ c.args.image.now.shape.c = omega arith in
+    subst (λ n. c.loop-j.faulty ≡ bit_set (unlinks_below c.args.image.now.bytes.now n) chunk_set_words) e c.loop-j.invariant.1

@@ -2,11 +2,8 @@
 use Rattle.repair.specs.Claims.{chunk_set_words, claims_below, bad_below, Counted}
 use Rattle.bitset.specs.Bits.{bit_set}
 use mathlib.Core.Path.{◌≡◌}
-use Prim.Native.Nat.{◌-◌, ◌≤◌}
+use Prim.Native.Nat.{◌≤◌}
 use Rattle.repair.proofs.faults.classify_chunks.Given as goal
 
 abbrev pub invariant-loop-i : goal.invariant-loop-i
-invariant-loop-i l = (l.i ≤ l.c) × (l.faulty ≡ bit_set (bad_below l.image l.i) chunk_set_words) × Counted (claims_below l.image l.i) l.once l.again
-
-abbrev pub decreases-loop-i : goal.decreases-loop-i
-decreases-loop-i l = l.c - l.i
+invariant-loop-i l = (l.i ≤ l.image.shape.c) × (l.faulty ≡ bit_set (bad_below l.image.bytes.now l.i) chunk_set_words) × Counted (claims_below l.image.bytes.now l.i) l.once l.again

@@ -5,14 +5,12 @@ use Rattle.repair.proofs.faults.find_faults.Goals as goal
 
 pub classify_chunks-requires : goal.classify_chunks-requires
 classify_chunks-requires c = record {
-  shaped = c.requires.shaped;
   faulty_value = c.requires.faulty_value;
   counted = counted_none _ _ refl refl;
 }
 
 pub add_all_sharing-requires : goal.add_all_sharing-requires
 add_all_sharing-requires c = record {
-  shaped = c.requires.shaped;
   again_value = c.classify_chunks.ensures.counted_2.more;
   faulty_value = c.classify_chunks.ensures.faulty_after;
 }

@@ -5,7 +5,6 @@ use Rattle.repair.proofs.faults.is_bad.Goals as goal
 
 pub good_map-requires : goal.good_map-requires
 good_map-requires c = record {
-  shaped = c.requires.shaped;
   i_lt_c = (c.requires.i_lt_c, sym c.good_link.ensures ∙ c.if-good_link.true);
 }
 

@@ -8,10 +8,7 @@ use native.Mathlib.Omega.{arith}
 use Rattle.repair.proofs.mend.repair_in.Goals as goal
 
 pub find_faults-requires : goal.find_faults-requires
-find_faults-requires c = record {
-  shaped = c.requires;
-  faulty_value = bit_set-none 4;
-}
+find_faults-requires c = record { faulty_value = bit_set-none 4 }
 
 pub count-n-requires : goal.count-n-requires
 count-n-requires c = omega (arith, found-limit c.args.image.now c.args.g c.requires _ c.find_faults.ensures)

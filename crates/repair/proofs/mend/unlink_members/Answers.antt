@@ -31,12 +31,6 @@ put_u32-requires c = omega (arith, c.loop-k.invariant.2)
 pub overflow_add-from : goal.overflow_add-from
 overflow_add-from c = let q = next-found c.args.faulty.now c.loop-k.from _ c.loop-k.k _ c.next_member-i.ensures c.loop-k.invariant.3 (omega arith) in omega (arith, q.below-n)
 
-pub overflow_add-k : goal.overflow_add-k
-overflow_add-k c = omega arith
-
-pub loop-k-smaller : goal.loop-k-smaller
-loop-k-smaller c = omega arith
-
 pub loop-k-preserved : goal.loop-k-preserved
 loop-k-preserved c = let ws = c.args.faulty.now in
     let l = c.loop-k in

@@ -1,15 +1,18 @@
 -- `report::alarms::alarm_at` meets its contract.
-use borrow.Author.Tests.{lt-ltb, le-ltb}
+use Rattle.std.proofs.Common.{arith}
+use Rattle.std.proofs.lemmas.Bool.Decides.{nat_tests}
+use lib.Ieee.{of_bits}
 use Rattle.report.specs.Alarms.{alarm_at}
 use Rattle.report.proofs.alarms.alarm_at.Goals as goal
 
-pub returns-then-free-k : goal.returns-then-free-k
-unfolding alarm_at
-returns-then-free-k c = simp (c.in-Count.is, lt-ltb _ _ c.if-free-k.true)
-
-pub returns-else-free-k : goal.returns-else-free-k
-unfolding alarm_at
-returns-else-free-k c = simp (c.in-Count.is, le-ltb _ _ c.if-free-k.false)
-
 pub returns-in-Fraction : goal.returns-in-Fraction
-returns-in-Fraction c = simp c.in-Fraction.is c.by_fraction.ensures
+unfolding alarm_at of_bits
+returns-in-Fraction c = grind (arith, nat_tests)
+
+pub returns-then-sounds : goal.returns-then-sounds
+unfolding alarm_at of_bits
+returns-then-sounds c = grind (arith, nat_tests)
+
+pub returns-else-sounds : goal.returns-else-sounds
+unfolding alarm_at of_bits
+returns-else-sounds c = grind (arith, nat_tests)

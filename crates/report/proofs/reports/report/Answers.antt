@@ -1,26 +1,20 @@
 -- `report::reports::report` meets its contract: the sets that were lent are those of the free units and of the free maps of a sound image.
-use mathlib.Core.Path.{ap, ◌∙◌}
+use mathlib.Core.Path.{ap, ◌∙◌, refl, sym}
 use borrow.Author.Rules.{rules}
+use Rattle.std.specs.Prelude.{Result, Ok}
+use Rattle.std.proofs.lemmas.Result.{err_from_is_err_and}
+use Rattle.layout.specs.declared.Refusal.{Refusal}
 use Rattle.image.proofs.Loads.{into-known, outcome-answer-refused, outcome-answer-sound}
-use Rattle.report.specs.Reports.{passed_report}
+use Rattle.report.specs.declared.Report.{Report}
 use Rattle.report.proofs.CountLaws.{report-known}
 use Rattle.report.proofs.reports.report.Goals as goal
 
-pub report_on-report-requires : goal.report_on-report-requires
-report_on-report-requires c =
-    let s = c.args.image.now in
-    let k = into-known s _ _ _ c.load_into-o.ensures _ c.in-Sound.is in record {
-      limits = k.shaped.limits;
-      units_bound = (search rules, search rules);
-    }
+pub report_on-requires-clause-limits : goal.report_on-requires-clause-limits
+report_on-requires-clause-limits c = (into-known c.args.image.now _ _ _ c.in_ok-g.ensures _ refl).shaped.limits
 
-pub returns-in-Refused : goal.returns-in-Refused
-returns-in-Refused c = c.refused.ensures ∙ outcome-answer-refused c.args.image.now _ c.load_into-o.ensures.right _ _ _ c.in-Refused.is
-
-pub returns-in-Sound : goal.returns-in-Sound
-returns-in-Sound c =
+pub returns : goal.returns
+returns c =
     let s = c.args.image.now in
-    let o = c.load_into-o.ensures in
-    let h = c.in-Sound.is in
-    c.passed.ensures ∙ ap passed_report (c.report_on-report.ensures ∙ report-known s _ (into-known s _ _ _ o _ h))
-    ∙ outcome-answer-sound s _ o.right _ _ _ h
+    let o = c.in_ok-g.ensures in
+    ap (λ (r : Report). Ok r) (c.report_on.ensures ∙ report-known s _ (into-known s _ _ _ o _ refl))
+    ∙ outcome-answer-sound s _ o.right _ _ _ refl

@@ -7,12 +7,8 @@ use Rattle.report.proofs.reports.report_on.Goals as goal
 pub overflow_sub-mapped : goal.overflow_sub-mapped
 overflow_sub-mapped c =
     let a = c.args in
-    omega (arith, c.count_below-unnamed.ensures, members-few a.maps.now a.g.m)
-
-pub report_in-requires : goal.report_in-requires
-report_in-requires c =
-    (c.requires.limits, omega (arith, c.count_below-unnamed.ensures, members-few c.args.maps.now c.args.g.m))
+    omega (arith, c.count_below-unnamed.ensures, members-few a.free.now.maps.now a.g.m)
 
 pub returns : goal.returns
 unfolding report_on
-returns c = rw (← c.count_below-free.ensures, ← c.count_below-unnamed.ensures) c.report_in.ensures
+returns c = rw (← c.count_below-units.ensures, ← c.count_below-unnamed.ensures) c.report_in.ensures
