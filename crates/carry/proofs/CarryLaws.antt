@@ -1,4 +1,5 @@
 -- What carrying out one step does to an image of a known shape: the shape stays, one word is set, and every other stays.
+use Rattle.std.specs.Prelude.{Option, Some, None}
 use Prim.Native.Nat.{ℕ, zero, suc, ◌+◌, ◌*◌, ◌/◌, ◌≤◌, ◌<◌}
 use mathlib.Core.Path.{◌≡◌, refl, sym, ap, ◌∙◌, subst}
 use mathlib.Core.Logic.{◌≢◌}
@@ -17,12 +18,8 @@ use Rattle.layout.specs.Layout.{X, max_chunk_bytes, map_words, word_at, put_word
 use Rattle.layout.specs.Shaped.{Limits, On, word_count}
 use Rattle.layout.proofs.Place.{word_at-same, word_at-other, on-put, place_in, put-trailer, on-limits}
 use Rattle.layout.proofs.Limits.{on-shaped}
-use Rattle.steps.specs.declared.Value.{Value}
-use Rattle.steps.specs.declared.Value.TheVariants.{Number, Absent}
 use Rattle.steps.specs.declared.Step.{Step}
 use Rattle.steps.specs.declared.Step.TheVariants.{Data, Map, Link, Fence}
-use Rattle.steps.specs.declared.Decoded.{Decoded}
-use Rattle.steps.specs.declared.Decoded.TheVariants.{Whole, Malformed}
 use Rattle.steps.specs.Steps.{word_of}
 use Rattle.steps.specs.Encodable.{Each}
 use Rattle.rules.specs.Rules.{value_below, word_in_range, in_range, whole_in_range}
@@ -30,9 +27,9 @@ use Rattle.rules.proofs.StepLaws.{InRange, word_small}
 use Rattle.carry.specs.Carry.{carry, carry_all, Misses}
 use Rattle.carry.specs.Carrying.{carry_decoded}
 
-value-fits : (b : ℕ) (v : Value) → b ≤ X → value_below b v ≡ true → word_of v ≤ X
-value-fits b (Number w) h k = omega (arith, ltb-true w b k)
-value-fits b Absent h k = omega arith
+value-fits : (b : ℕ) (v : Option ℕ) → b ≤ X → value_below b v ≡ true → word_of v ≤ X
+value-fits b (Some w) h k = omega (arith, ltb-true w b k)
+value-fits b None h k = omega arith
 
 -- a byte of another word
 byte-other : (s : List ℕ) (i b v : ℕ) → i ≢ b / 8 → get_or (put_word s i v) b 0 ≡ get_or s b 0
@@ -41,7 +38,7 @@ byte-other s i b v h = get_or-sets-outside (digits 8 v) s (8 * i) b (λ p q. h (
 module _ (g : Shape) where
   -- ---- the parts of `in_range`
 
-  module _ (k j : ℕ) (v : Value) (h : in_range g (Map k j v) ≡ true) where
+  module _ (k j : ℕ) (v : Option ℕ) (h : in_range g (Map k j v) ≡ true) where
     both : (ltb k g.m && ltb j (map_words g)) ≡ true
     both = and_left (ltb k g.m && ltb j (map_words g)) (word_in_range g j v) h
 
@@ -58,7 +55,7 @@ module _ (g : Shape) where
     map-in : map_word_place g k j < word_count g
     map-in = place_in g k j map_below word_below
 
-  module _ (i : ℕ) (v : Value) (h : in_range g (Link i v) ≡ true) where
+  module _ (i : ℕ) (v : Option ℕ) (h : in_range g (Link i v) ≡ true) where
     pub chunk-below : i < g.c
     chunk-below = ltb-true i g.c (and_left (ltb i g.c) (value_below g.m v) h)
 
@@ -72,15 +69,15 @@ module _ (g : Shape) where
     -- ---- the bytes that a step in range stores are the image's
 
     module _ (x : Step) (h : in_range g x ≡ true) where
-      pub map-place : (k j : ℕ) (v : Value) → x ≡ Map k j v → (k < g.m) × (j < map_words g)
+      pub map-place : (k j : ℕ) (v : Option ℕ) → x ≡ Map k j v → (k < g.m) × (j < map_words g)
       map-place k j v e = (map_below k j v (rw e at h), word_below k j v (rw e at h))
 
-      pub link-bytes : (i : ℕ) (v : Value) → x ≡ Link i v → 8 * i + 8 ≤ length s
+      pub link-bytes : (i : ℕ) (v : Option ℕ) → x ≡ Link i v → 8 * i + 8 ≤ length s
       link-bytes i v e = let z = (on-shaped g s o).size in omega (arith, link-in i v (rw e at h))
 
     -- ---- the image after a step
 
-    carry-map : (k j : ℕ) (v : Value) → carry s (Map k j v) ≡ put_word s (map_word_place g k j) (word_of v)
+    carry-map : (k j : ℕ) (v : Option ℕ) → carry s (Map k j v) ≡ put_word s (map_word_place g k j) (word_of v)
     carry-map k j v = ap (λ (h : Shape). put_word s (map_word_place h k j) (word_of v)) o.shape
 
     pub on-carry : (x : Step) → in_range g x ≡ true → On g (carry s x)
@@ -89,9 +86,9 @@ module _ (g : Shape) where
     on-carry (Link i v) h = on-put g s o i (word_of v) (link-in i v h)
     on-carry Fence h = o
 
-    pub on-decoded : (d : Decoded) → whole_in_range g d ≡ true → On g (carry_decoded s d)
-    on-decoded (Whole x) h = on-carry x h
-    on-decoded Malformed h = contradict h refl
+    pub on-decoded : (d : Option Step) → whole_in_range g d ≡ true → On g (carry_decoded s d)
+    on-decoded (Some x) h = on-carry x h
+    on-decoded None h = contradict h refl
 
     pub carry-miss : (x : Step) (q : ℕ) → Misses g q x → word_at (carry s x) q ≡ word_at s q
     carry-miss (Data u j w) q h = refl
@@ -115,12 +112,12 @@ module _ (g : Shape) where
     carry-trailer (Link i v) h = put-trailer g s i (word_of v) (link-in i v h)
     carry-trailer Fence h = refl
 
-    pub carried-word : (k j : ℕ) (v : Value) → in_range g (Map k j v) ≡ true → word_at (carry s (Map k j v)) (map_word_place g k j) ≡ word_of v
+    pub carried-word : (k j : ℕ) (v : Option ℕ) → in_range g (Map k j v) ≡ true → word_at (carry s (Map k j v)) (map_word_place g k j) ≡ word_of v
     carried-word k j v h =
         ap (λ (t : List ℕ). word_at t (map_word_place g k j)) (carry-map k j v)
         ∙ word_at-same g s o (map_word_place g k j) (word_of v) (map-in k j v h) (unit-fits k j v h (on-limits o))
 
-    pub carried-link : (i : ℕ) (v : Value) → in_range g (Link i v) ≡ true → word_at (carry s (Link i v)) i ≡ word_of v
+    pub carried-link : (i : ℕ) (v : Option ℕ) → in_range g (Link i v) ≡ true → word_at (carry s (Link i v)) i ≡ word_of v
     carried-link i v h = word_at-same g s o i (word_of v) (link-in i v h) (link_fits i v h (on-limits o))
 
 -- ---- the first n steps, one after the other

@@ -1,4 +1,5 @@
 -- The theorems of this crate that a reader wants: nothing else cites them. What a whole accepted plan makes of the chunks is proved in crate durable.
+use Rattle.std.specs.Prelude.{Result, Ok, Err, ⊤}
 use Prim.Native.Nat.{ℕ, ◌/◌, ◌≤◌}
 use native.Mathlib.Omega.{arith}
 use mathlib.Core.Path.{◌≡◌, refl, sym, ap, ◌∙◌}
@@ -14,8 +15,6 @@ use Rattle.steps.specs.declared.Step.{Step}
 use Rattle.steps.specs.declared.Request.{Request}
 use Rattle.steps.specs.Steps.{whole_steps, steps_of}
 use Rattle.steps.specs.Encodable.{Each}
-use Rattle.rules.specs.declared.Checked.{Checked}
-use Rattle.rules.specs.declared.Checked.TheVariants.{Accepted, Refused as Denied}
 use Rattle.rules.specs.Rules.{checked}
 use Rattle.rules.proofs.StepLaws.{InRange, each-in-range}
 use Rattle.rules.proofs.Accepting.{accepted-of}
@@ -40,33 +39,33 @@ module _ (s : List ℕ) (r : Request) (plan : List ℕ) (n : ℕ) where
   -- ---- the answer
 
   -- It accepts exactly where the checker accepts the plan and the plan has n whole steps.
-  pub accepts-is-checked : carry_answer s r plan n ≡ Accepted → (checked s r plan ≡ Accepted) × (n ≤ whole_steps plan)
+  pub accepts-is-checked : carry_answer s r plan n ≡ Ok tt → (checked s r plan ≡ Ok tt) × (n ≤ whole_steps plan)
   accepts-is-checked = answer-accepted s r plan n
 
-  pub checked-is-accepted : checked s r plan ≡ Accepted → n ≤ whole_steps plan → carry_answer s r plan n ≡ Accepted
+  pub checked-is-accepted : checked s r plan ≡ Ok tt → n ≤ whole_steps plan → carry_answer s r plan n ≡ Ok tt
   checked-is-accepted = accepted-answer s r plan n
 
   -- ---- the image
 
   -- "A refusal changes nothing lent."
-  pub refusal-changes-nothing : (x : Refusal) → carry_answer s r plan n ≡ Denied x → carry_image s r plan n ≡ s
-  refusal-changes-nothing x e = ap (λ (a : Checked). left_by a s plan n) e
+  pub refusal-changes-nothing : (x : Refusal) → carry_answer s r plan n ≡ Err x → carry_image s r plan n ≡ s
+  refusal-changes-nothing x e = ap (λ (a : Result ⊤ Refusal). left_by a s plan n) e
 
-  on : carry_answer s r plan n ≡ Accepted → On (shape_of s) s
+  on : carry_answer s r plan n ≡ Ok tt → On (shape_of s) s
   on e = (orderly (accepted-of s r plan (answer-accepted s r plan n e).0).sound).on
 
-  in-range : carry_answer s r plan n ≡ Accepted → Each (InRange (shape_of s)) (take n (steps_of plan))
+  in-range : carry_answer s r plan n ≡ Ok tt → Each (InRange (shape_of s)) (take n (steps_of plan))
   in-range e =
       each_take (InRange (shape_of s)) n (steps_of plan)
       (each-in-range (shape_of s) plan (accepted-of s r plan (answer-accepted s r plan n e).0).rules.one)
 
   -- what holds of the image itself, and of the image after the first n steps where they are carried out, holds of the image afterwards
-  either_way : (P : List ℕ → Type 0) → P s → (carry_answer s r plan n ≡ Accepted → P (carried s plan n)) → P (carry_image s r plan n)
+  either_way : (P : List ℕ → Type 0) → P s → (carry_answer s r plan n ≡ Ok tt → P (carried s plan n)) → P (carry_image s r plan n)
   either_way P a b = at (carry_answer s r plan n) refl
     where
-      at : (x : Checked) → carry_answer s r plan n ≡ x → P (left_by x s plan n)
-      at Accepted e = b e
-      at (Denied y) e = a
+      at : (x : Result ⊤ Refusal) → carry_answer s r plan n ≡ x → P (left_by x s plan n)
+      at (Ok tt) e = b e
+      at (Err y) e = a
 
   -- "and no other byte": a byte stays that lies in no word of the first n steps.
   pub other-bytes-stay : (b : ℕ) → Each (Misses (shape_of s) (b / 8)) (take n (steps_of plan)) → get_or (carry_image s r plan n) b 0 ≡ get_or s b 0

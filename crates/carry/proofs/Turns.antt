@@ -1,4 +1,5 @@
 -- The loop that carries a plan out, turn by turn: a plan that keeps rule 1 has a step in range at every place.
+use Rattle.std.specs.Prelude.{Option, Some, None}
 use Prim.Native.Nat.{ℕ, suc, ◌+◌, ◌-◌, ◌%◌, ◌≤◌, ◌<◌}
 use native.Mathlib.Omega.{arith}
 use mathlib.Core.Path.{◌≡◌, refl, ap, sym, ◌∙◌}
@@ -12,8 +13,6 @@ use Rattle.search.proofs.Members.{all-at}
 use Rattle.search.proofs.Ranges.{below-member}
 use Rattle.layout.specs.declared.Shape.{Shape}
 use Rattle.steps.specs.declared.Step.{Step}
-use Rattle.steps.specs.declared.Decoded.{Decoded}
-use Rattle.steps.specs.declared.Decoded.TheVariants.{Whole, Malformed}
 use Rattle.steps.specs.Steps.{step_bytes, whole_steps, decode_at, steps_append}
 use Rattle.rules.specs.Rules.{max_steps, whole_in_range, rule1}
 use Rattle.steps.proofs.Rest.{rest, rest-start, rest-next}
@@ -33,11 +32,11 @@ module _ (s plan : List ℕ) (n : ℕ) where
   unfolding carried
   carry-start = let e : n - 0 ≡ n = omega arith in rw e (ap (λ (xs : List Step). carry_all s (take n xs)) (sym (rest-start plan)))
 
-  first : (g : Shape) (d : Decoded) (xs : List Step) (k : ℕ) → whole_in_range g d ≡ true
+  first : (g : Shape) (d : Option Step) (xs : List Step) (k : ℕ) → whole_in_range g d ≡ true
       → carry_all (carry_decoded s d) (take k xs) ≡ carry_all s (take (suc k) (steps_append d xs))
   unfolding carry_all
-  first g (Whole x) xs k h = refl
-  first g Malformed xs k h = contradict h refl
+  first g (Some x) xs k h = refl
+  first g None xs k h = contradict h refl
 
   pub carry-turn :
       (g : Shape) → rule1 g plan ≡ true → n ≤ whole_steps plan → (i : ℕ) → i < n

@@ -1,5 +1,5 @@
 -- Carrying out the first n steps of a plan: what it answers, and every byte of the image afterwards.
-use Rattle.std.specs.Prelude.{ℕ, ◌≢◌, Bool, true, false, cond, List, [], ◌∷◌, ltb, take}
+use Rattle.std.specs.Prelude.{ℕ, ◌≢◌, Bool, true, false, cond, List, [], ◌∷◌, ltb, take, Option, Some, None, Result, Ok, Err, ⊤}
 use Rattle.search.specs.Search.{below, any}
 use Rattle.layout.specs.declared.Shape.{Shape}
 use Rattle.layout.specs.declared.Refusal.TheVariants.{Range}
@@ -8,13 +8,10 @@ use Rattle.image.specs.Verdicts.{verdict}
 use Rattle.image.specs.Answers.{if_sound}
 use Rattle.steps.specs.declared.Step.{Step}
 use Rattle.steps.specs.declared.Step.TheVariants.{Data, Map, Link, Fence}
-use Rattle.steps.specs.declared.Decoded.{Decoded}
-use Rattle.steps.specs.declared.Decoded.TheVariants.{Whole, Malformed}
 use Rattle.steps.specs.declared.Request.{Request}
 use Rattle.steps.specs.Steps.{word_of, decode_at, steps_of, whole_steps}
-use Rattle.rules.specs.declared.Checked.{Checked}
-use Rattle.rules.specs.declared.Checked.TheVariants.{Accepted, Refused as Denied}
 use Rattle.rules.specs.Rules.{Known, known_of, judged}
+use Rattle.layout.specs.declared.Refusal.{Refusal}
 
 -- ---- the image: "stores the MAP and LINK words of those n and no other byte. DATA is the caller's."
 
@@ -35,12 +32,12 @@ unfoldable pub carried : List ℕ → List ℕ → ℕ → List ℕ
 carried s plan n = carry_all s (take n (steps_of plan))
 
 -- what the bytes of a step say is a LINK
-abbrev pub says_link : Decoded → Bool
-says_link (Whole (Data u j w)) = false
-says_link (Whole (Map k j v)) = false
-says_link (Whole (Link i v)) = true
-says_link (Whole Fence) = false
-says_link Malformed = false
+abbrev pub says_link : Option Step → Bool
+says_link (Some (Data u j w)) = false
+says_link (Some (Map k j v)) = false
+says_link (Some (Link i v)) = true
+says_link (Some Fence) = false
+says_link None = false
 
 -- a LINK is among the first n steps of a plan
 unfoldable pub link_within : List ℕ → ℕ → Bool
@@ -57,17 +54,17 @@ Misses g q Fence = Unit {0}
 
 -- Of what is known, of an image or from any sets: 7 for a "step count above the plan's whole steps", or what the checker answers. It is the whole plan that is checked,
 -- even for n = 0.
-unfoldable pub carry_in : Known → Request → List ℕ → ℕ → Checked
-carry_in kn r plan n = cond (ltb (whole_steps plan) n) (Denied Range) (judged kn r plan)
+unfoldable pub carry_in : Known → Request → List ℕ → ℕ → Result ⊤ Refusal
+carry_in kn r plan n = cond (ltb (whole_steps plan) n) (Err Range) (judged kn r plan)
 
 -- of any image: "Every entry point first applies 1 to 6 to its image"
-abbrev pub carry_answer : List ℕ → Request → List ℕ → ℕ → Checked
-carry_answer s r plan n = if_sound (verdict s) Denied (carry_in (known_of s r) r plan n)
+abbrev pub carry_answer : List ℕ → Request → List ℕ → ℕ → Result ⊤ Refusal
+carry_answer s r plan n = if_sound (verdict s) Err (carry_in (known_of s r) r plan n)
 
 -- "A refusal changes nothing lent": the image that an answer leaves
-abbrev pub left_by : Checked → List ℕ → List ℕ → ℕ → List ℕ
-left_by Accepted s plan n = carried s plan n
-left_by (Denied x) s plan n = s
+abbrev pub left_by : Result ⊤ Refusal → List ℕ → List ℕ → ℕ → List ℕ
+left_by (Ok tt) s plan n = carried s plan n
+left_by (Err x) s plan n = s
 
 -- the image afterwards
 abbrev pub carry_image : List ℕ → Request → List ℕ → ℕ → List ℕ

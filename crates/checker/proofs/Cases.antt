@@ -1,4 +1,5 @@
 -- The rules on document 01's 64 KB volume, fresh: P 4, C 4, M 5, N 20. A table that tests the definitions.
+use Rattle.std.specs.Prelude.{Some, None}
 use Prim.Native.Nat.{ℕ}
 use mathlib.Core.Path.{◌≡◌, refl}
 use mathlib.Core.Bool.{Bool, true, false, ◌&&◌}
@@ -6,7 +7,6 @@ use mathlib.Core.List.{List, [], ◌∷◌, ◌++◌}
 use lib.Dec.{eqb, ltb}
 use Rattle.words.specs.Words.{number, digits}
 use Rattle.search.specs.Search.{from, keep, member, any, all, distinct}
-use Rattle.steps.specs.declared.Value.TheVariants.{Number, Absent}
 use Rattle.steps.specs.declared.Step.{Step}
 use Rattle.steps.specs.declared.Step.TheVariants.{Data, Map, Link, Fence}
 use Rattle.steps.specs.declared.Request.{Request}
@@ -34,10 +34,10 @@ abbrev pub discard : Bool → List Step → ℕ → Case
 discard m xs r = record { mapped = m; request = Discard 1; steps = xs; broken = r }
 
 abbrev pub words : List Step
-words = Map 0 0 (Number 0) ∷ Map 0 1 (Number 1) ∷ Map 0 2 Absent ∷ Map 0 3 Absent ∷ []
+words = Map 0 0 (Some 0) ∷ Map 0 1 (Some 1) ∷ Map 0 2 None ∷ Map 0 3 None ∷ []
 
 abbrev pub ends : List Step
-ends = Fence ∷ Link 2 (Number 0) ∷ Fence ∷ []
+ends = Fence ∷ Link 2 (Some 0) ∷ Fence ∷ []
 
 unfoldable pub cases : List Case
 cases =
@@ -51,23 +51,23 @@ cases =
     ∷ write (Data 0 0 0 ∷ words ++ ends) 2
     ∷ write (Data 0 0 0 ∷ Data 0 1 0 ∷ words ++ ends) 2
     -- the lowest free units in another order, and other free units
-    ∷ write (Data 1 0 0 ∷ Data 0 1 0 ∷ Map 0 0 (Number 1) ∷ Map 0 1 (Number 0) ∷ Map 0 2 Absent ∷ Map 0 3 Absent ∷ ends) 2
-    ∷ write (Data 0 0 0 ∷ Data 2 1 0 ∷ Map 0 0 (Number 0) ∷ Map 0 1 (Number 2) ∷ Map 0 2 Absent ∷ Map 0 3 Absent ∷ ends) 2
+    ∷ write (Data 1 0 0 ∷ Data 0 1 0 ∷ Map 0 0 (Some 1) ∷ Map 0 1 (Some 0) ∷ Map 0 2 None ∷ Map 0 3 None ∷ ends) 2
+    ∷ write (Data 0 0 0 ∷ Data 2 1 0 ∷ Map 0 0 (Some 0) ∷ Map 0 1 (Some 2) ∷ Map 0 2 None ∷ Map 0 3 None ∷ ends) 2
     -- words that are not the pieces' units, and two maps
-    ∷ write (Data 0 0 0 ∷ Data 1 1 0 ∷ Map 0 0 (Number 1) ∷ Map 0 1 (Number 0) ∷ Map 0 2 Absent ∷ Map 0 3 Absent ∷ ends) 3
-    ∷ write (Data 0 0 0 ∷ Data 1 1 0 ∷ Map 0 0 (Number 0) ∷ Map 1 1 (Number 1) ∷ Map 0 2 Absent ∷ Map 0 3 Absent ∷ ends) 3
+    ∷ write (Data 0 0 0 ∷ Data 1 1 0 ∷ Map 0 0 (Some 1) ∷ Map 0 1 (Some 0) ∷ Map 0 2 None ∷ Map 0 3 None ∷ ends) 3
+    ∷ write (Data 0 0 0 ∷ Data 1 1 0 ∷ Map 0 0 (Some 0) ∷ Map 1 1 (Some 1) ∷ Map 0 2 None ∷ Map 0 3 None ∷ ends) 3
     -- another chunk
-    ∷ write (Data 0 0 0 ∷ Data 1 1 0 ∷ words ++ (Fence ∷ Link 3 (Number 0) ∷ Fence ∷ [])) 4
+    ∷ write (Data 0 0 0 ∷ Data 1 1 0 ∷ words ++ (Fence ∷ Link 3 (Some 0) ∷ Fence ∷ [])) 4
     -- no FENCE before LINK, none at the end, and DATA after LINK
-    ∷ write (Data 0 0 0 ∷ Data 1 1 0 ∷ words ++ (Link 2 (Number 0) ∷ Fence ∷ [])) 5
-    ∷ write (Data 0 0 0 ∷ Data 1 1 0 ∷ words ++ (Fence ∷ Link 2 (Number 0) ∷ [])) 5
-    ∷ write (Data 0 0 0 ∷ words ++ (Fence ∷ Link 2 (Number 0) ∷ Data 1 1 0 ∷ Fence ∷ [])) 5
+    ∷ write (Data 0 0 0 ∷ Data 1 1 0 ∷ words ++ (Link 2 (Some 0) ∷ Fence ∷ [])) 5
+    ∷ write (Data 0 0 0 ∷ Data 1 1 0 ∷ words ++ (Fence ∷ Link 2 (Some 0) ∷ [])) 5
+    ∷ write (Data 0 0 0 ∷ words ++ (Fence ∷ Link 2 (Some 0) ∷ Data 1 1 0 ∷ Fence ∷ [])) 5
     -- discards of an unmapped chunk and of a mapped one
     ∷ discard false [] 0
     ∷ discard false (Fence ∷ []) 5
-    ∷ discard true (Link 1 Absent ∷ Fence ∷ []) 0
+    ∷ discard true (Link 1 None ∷ Fence ∷ []) 0
     ∷ discard true (Fence ∷ []) 4
-    ∷ discard true (Link 1 Absent ∷ []) 5
+    ∷ discard true (Link 1 None ∷ []) 5
     ∷ []
 
 unfoldable pub all_hold : List Case → Bool

@@ -1,5 +1,6 @@
 -- The theorems of this crate that a reader wants: nothing else cites them. `Bytes s` says that each element of s is below 256, as every lent
 -- image's is.
+use Rattle.std.specs.Prelude.{Some, Result, Ok, Err, ⊤}
 use Prim.Native.Nat.{ℕ, zero, suc, ◌<◌, ◌≤◌}
 use mathlib.Core.Path.{◌≡◌, refl, sym, ap, ◌∙◌, subst}
 use mathlib.Core.Bool.{Bool, true, false, cond}
@@ -16,8 +17,6 @@ use Rattle.layout.specs.declared.Refusal.{Refusal}
 use Rattle.layout.specs.declared.Refusal.TheVariants.{Short, Foreign, Geometry, BadLink, BadMap, Shared, Range, Size, NoRoom, Small, BadPlan, BadAlarm}
 use Rattle.layout.specs.Layout.{map_words, shape_of}
 use Rattle.layout.proofs.Limits.{map-words}
-use Rattle.image.specs.declared.Verdict.{Verdict}
-use Rattle.image.specs.declared.Verdict.TheVariants.{Passed, Refused as Unsound}
 use Rattle.image.specs.Soundness.{Sound}
 use Rattle.image.specs.Verdicts.{verdict}
 use Rattle.image.specs.Rows.{Row}
@@ -27,12 +26,9 @@ use Rattle.image.proofs.Room.{free_unit-unreserved}
 use Rattle.image.proofs.Theorems.{passed-is-sound, sound-is-passed, refused-is-row, row-is-refused}
 use Rattle.steps.specs.declared.Step.{Step}
 use Rattle.steps.specs.declared.Step.TheVariants.{Data}
-use Rattle.steps.specs.declared.Decoded.TheVariants.{Whole}
 use Rattle.steps.specs.declared.Request.{Request}
 use Rattle.steps.specs.declared.Request.TheVariants.{Write, Discard}
 use Rattle.steps.specs.Steps.{whole_steps, decode_at, steps_of, chunk_of, need_of, good_chunk, good_size}
-use Rattle.rules.specs.declared.Checked.{Checked}
-use Rattle.rules.specs.declared.Checked.TheVariants.{Accepted, Refused}
 use Rattle.rules.specs.Rules.{Known, known_of, broken_rule, broken, judged, checked}
 use Rattle.rules.specs.Reading.{At, Rule, Rule1, Rule2, KeepsAll, LowestBroken, GoodRequest, Refuses, Answers}
 use Rattle.rules.proofs.Good.{good-told, chunk-tested, size-tested}
@@ -46,10 +42,10 @@ use Rattle.rules.proofs.Lowest.{unbroken-kept, kept-unbroken, broken-lowest, low
 
 -- Where rule 1 is kept, the step at place i of `steps_of plan` is what the 16 bytes of the plan's step i say.
 pub step-is-read : (g : Shape) (plan : List ℕ) → Rule1 g plan → (i : ℕ) (x : Step) → At (steps_of plan) i x
-    → (i < whole_steps plan) × (decode_at plan i ≡ Whole x)
+    → (i < whole_steps plan) × (decode_at plan i ≡ Some x)
 step-is-read g plan h = step-told plan (λ i l. let s = h.steps i l in (s.0, s.1))
 
-pub read-is-step : (g : Shape) (plan : List ℕ) → Rule1 g plan → (i : ℕ) (x : Step) → i < whole_steps plan → decode_at plan i ≡ Whole x
+pub read-is-step : (g : Shape) (plan : List ℕ) → Rule1 g plan → (i : ℕ) (x : Step) → i < whole_steps plan → decode_at plan i ≡ Some x
     → At (steps_of plan) i x
 read-is-step g plan h = step-there plan (λ i l. let s = h.steps i l in (s.0, s.1))
 
@@ -95,9 +91,9 @@ module _ (s : List ℕ) (r : Request) (plan : List ℕ) where
   kn = known_of s r
 
   -- what is computed for an image that passed
-  of-passed : verdict s ≡ Passed → checked s r plan ≡ judged kn r plan
+  of-passed : verdict s ≡ Ok tt → checked s r plan ≡ judged kn r plan
   unfolding checked
-  of-passed e = ap (λ (v : Verdict). if_sound v Refused (judged kn r plan)) e
+  of-passed e = ap (λ (v : Result ⊤ Refusal). if_sound v Err (judged kn r plan)) e
 
   some_word : Sound g s → 1 ≤ map_words g
   some_word z = omega (arith, z.limits.p-low, map-words g)
@@ -113,20 +109,20 @@ module _ (s : List ℕ) (r : Request) (plan : List ℕ) where
         by-rules h (suc n) e = (z, h, broken-lowest kn r plan (some_word z) n e)
 
         by_size : chunk_of r < g.c → (b : Bool) → good_size g r ≡ b
-            → Answers s r plan (cond b (broken (broken_rule kn r plan)) (Refused Size))
+            → Answers s r plan (cond b (broken (broken_rule kn r plan)) (Err Size))
         by_size l true e = by-rules (good-told g r l e) (broken_rule kn r plan) refl
         by_size l false e = (z, l, λ h. contradict (size-tested g r h) e)
 
         by-chunk : (b : Bool) → good_chunk g r ≡ b
-            → Answers s r plan (cond b (cond (good_size g r) (broken (broken_rule kn r plan)) (Refused Size)) (Refused Range))
+            → Answers s r plan (cond b (cond (good_size g r) (broken (broken_rule kn r plan)) (Err Size)) (Err Range))
         by-chunk true e = by_size (ltb-true (chunk_of r) g.c e) (good_size g r) refl
         by-chunk false e = (z, ltb-false (chunk_of r) g.c e)
 
-    judged-range : g.c ≤ chunk_of r → judged kn r plan ≡ Refused Range
+    judged-range : g.c ≤ chunk_of r → judged kn r plan ≡ Err Range
     unfolding judged
     judged-range h = rw (le-ltb (chunk_of r) g.c h)
 
-    judged-size : chunk_of r < g.c → (GoodRequest g r → ⊥) → judged kn r plan ≡ Refused Size
+    judged-size : chunk_of r < g.c → (GoodRequest g r → ⊥) → judged kn r plan ≡ Err Size
     unfolding judged
     judged-size l h = rw (lt-ltb (chunk_of r) g.c l, is_false (good_size g r) (λ e. h (good-told g r l e)))
 
@@ -140,20 +136,20 @@ module _ (s : List ℕ) (r : Request) (plan : List ℕ) where
   unfolding checked
   answer-holds b = by-verdict (verdict s) refl
     where
-      by-verdict : (v : Verdict) → verdict s ≡ v → Answers s r plan (if_sound v Refused (judged kn r plan))
-      by-verdict Passed e = judged-told (passed-is-sound s b e)
-      by-verdict (Unsound x) e = own-told s r plan x (refused-is-row s x e)
+      by-verdict : (v : Result ⊤ Refusal) → verdict s ≡ v → Answers s r plan (if_sound v Err (judged kn r plan))
+      by-verdict (Ok tt) e = judged-told (passed-is-sound s b e)
+      by-verdict (Err x) e = own-told s r plan x (refused-is-row s x e)
 
   -- no rule has the number 0
-  lowest-given : (n : ℕ) → LowestBroken kn r plan n → broken (broken_rule kn r plan) ≡ broken n → broken (broken_rule kn r plan) ≡ Refused (BadPlan n)
+  lowest-given : (n : ℕ) → LowestBroken kn r plan n → broken (broken_rule kn r plan) ≡ broken n → broken (broken_rule kn r plan) ≡ Err (BadPlan n)
   lowest-given zero l e = absurd (l.broken tt)
   lowest-given (suc n) l e = e
 
-  own-given : (x : Refusal) → Row s x → checked s r plan ≡ Refused x
+  own-given : (x : Refusal) → Row s x → checked s r plan ≡ Err x
   unfolding checked
-  own-given x h = ap (λ (v : Verdict). if_sound v Refused (judged kn r plan)) (row-is-refused s x h)
+  own-given x h = ap (λ (v : Result ⊤ Refusal). if_sound v Err (judged kn r plan)) (row-is-refused s x h)
 
-  given : (x : Refusal) → Refuses s r plan x → checked s r plan ≡ Refused x
+  given : (x : Refusal) → Refuses s r plan x → checked s r plan ≡ Err x
   given Short h = own-given Short h
   given Foreign h = own-given Foreign h
   given Geometry h = own-given Geometry h
@@ -170,23 +166,23 @@ module _ (s : List ℕ) (r : Request) (plan : List ℕ) where
   given BadAlarm h = absurd h
 
   -- And where an answer holds, it is given.
-  pub holding-is-answered : (c : Checked) → Answers s r plan c → checked s r plan ≡ c
-  holding-is-answered Accepted h =
+  pub holding-is-answered : (c : Result ⊤ Refusal) → Answers s r plan c → checked s r plan ≡ c
+  holding-is-answered (Ok tt) h =
       of-passed (sound-is-passed g s h.0).0 ∙ judged-rules h.0 h.1 ∙ ap broken (kept-unbroken kn r plan (some_word h.0) h.2)
-  holding-is-answered (Refused x) h = given x h
+  holding-is-answered (Err x) h = given x h
 
   -- The same, said of acceptance and of refusal 11 alone.
-  pub accepted-is-kept : Bytes s → checked s r plan ≡ Accepted → Sound g s × GoodRequest g r × KeepsAll kn r plan
+  pub accepted-is-kept : Bytes s → checked s r plan ≡ Ok tt → Sound g s × GoodRequest g r × KeepsAll kn r plan
   accepted-is-kept b e = subst (Answers s r plan) e (answer-holds b)
 
-  pub kept-is-accepted : Sound g s → GoodRequest g r → KeepsAll kn r plan → checked s r plan ≡ Accepted
-  kept-is-accepted z h k = holding-is-answered Accepted (z, h, k)
+  pub kept-is-accepted : Sound g s → GoodRequest g r → KeepsAll kn r plan → checked s r plan ≡ Ok tt
+  kept-is-accepted z h k = holding-is-answered (Ok tt) (z, h, k)
 
-  pub bad-plan-is-lowest : Bytes s → (n : ℕ) → checked s r plan ≡ Refused (BadPlan n) → Sound g s × GoodRequest g r × LowestBroken kn r plan n
+  pub bad-plan-is-lowest : Bytes s → (n : ℕ) → checked s r plan ≡ Err (BadPlan n) → Sound g s × GoodRequest g r × LowestBroken kn r plan n
   bad-plan-is-lowest b n e = subst (Answers s r plan) e (answer-holds b)
 
-  pub lowest-is-bad-plan : (n : ℕ) → Sound g s → GoodRequest g r → LowestBroken kn r plan n → checked s r plan ≡ Refused (BadPlan n)
-  lowest-is-bad-plan n z h l = holding-is-answered (Refused (BadPlan n)) (z, h, l)
+  pub lowest-is-bad-plan : (n : ℕ) → Sound g s → GoodRequest g r → LowestBroken kn r plan n → checked s r plan ≡ Err (BadPlan n)
+  lowest-is-bad-plan n z h l = holding-is-answered (Err (BadPlan n)) (z, h, l)
 
 -- ---- rule 2: the lowest free units (02, request 6)
 
@@ -234,7 +230,7 @@ no-room-breaks-2 free r xs l h = let e = enough-free free xs r (rule2-tested fre
 module _ (s : List ℕ) (r : Request) (plan : List ℕ) where
   -- what breaks rule 2 and keeps rule 1 gives 11 with 2
   breaks-2 : Sound (shape_of s) s → GoodRequest (shape_of s) r → Rule1 (shape_of s) plan → (Rule2 (free_units s) r (steps_of plan) → ⊥)
-      → checked s r plan ≡ Refused (BadPlan 2)
+      → checked s r plan ≡ Err (BadPlan 2)
   breaks-2 z h one no-two = lowest-is-bad-plan s r plan 2 z h (record { broken = no-two; lower = lower })
     where
       lower : (i : ℕ) → i < 2 → Rule (known_of s r) r plan i
@@ -243,20 +239,20 @@ module _ (s : List ℕ) (r : Request) (plan : List ℕ) where
       lower (suc (suc i)) l = absurd (omega arith)
 
   pub no-room-is-2 : Sound (shape_of s) s → GoodRequest (shape_of s) r → Rule1 (shape_of s) plan → length (free_units s) < need_of r
-      → checked s r plan ≡ Refused (BadPlan 2)
+      → checked s r plan ≡ Err (BadPlan 2)
   no-room-is-2 z h one l = breaks-2 z h one (no-room-breaks-2 (free_units s) r (steps_of plan) l)
 
   -- "A plan on other free units, accepted until now, gives 11 with rule 2."
   pub other-unit-is-2 : Sound (shape_of s) s → GoodRequest (shape_of s) r → Rule1 (shape_of s) plan → (i u j w : ℕ) → At (steps_of plan) i (Data u j w)
       → (At (free_units s) j u → ⊥)
-      → checked s r plan ≡ Refused (BadPlan 2)
+      → checked s r plan ≡ Err (BadPlan 2)
   other-unit-is-2 z h one i u j w x n = breaks-2 z h one (go r)
     where
       go : (r : Request) → Rule2 (free_units s) r (steps_of plan) → ⊥
       go (Write c size) k = n (k.lowest i u j w x)
       go (Discard c) k = k i u j w x
 
-  module _ (b : Bytes s) (e : checked s r plan ≡ Accepted) where
+  module _ (b : Bytes s) (e : checked s r plan ≡ Ok tt) where
     abbrev two : Rule2 (free_units s) r (steps_of plan)
     two = (accepted-is-kept s r plan b e).2 2
 

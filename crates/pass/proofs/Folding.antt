@@ -1,10 +1,9 @@
 -- Passes: what a step keeps, a list of steps keeps; and the laws by which a loop goes through a plan.
+use Rattle.std.specs.Prelude.{Option, Some, None}
 use Prim.Native.Nat.{ℕ, ◌+◌, ◌<◌, ◌≤◌}
 use mathlib.Core.Path.{◌≡◌, refl, ap, sym, ◌∙◌}
 use mathlib.Core.List.{List, [], ◌∷◌}
 use Rattle.steps.specs.declared.Step.{Step}
-use Rattle.steps.specs.declared.Decoded.{Decoded}
-use Rattle.steps.specs.declared.Decoded.TheVariants.{Whole, Malformed}
 use Rattle.steps.specs.Steps.{decode_at, whole_steps, steps_append, steps_of}
 use Rattle.steps.proofs.Rest.{rest, rest-start, rest-next, rest_end}
 use Rattle.tally.specs.Tallies.{fold}
@@ -28,10 +27,10 @@ fold-part f h part e [] a = refl
 fold-part f h part e (x ∷ xs) a = fold-part f h part e xs (f a x) ∙ ap (λ b. fold h b xs) (e a x)
 
 module _ {A : Type 0} (f : A → Step → A) (a : A) (plan : List ℕ) where
-  fold-append : (d : Decoded) (xs : List Step) → fold f a (steps_append d xs) ≡ fold f (on_decoded f a d) xs
+  fold-append : (d : Option Step) (xs : List Step) → fold f a (steps_append d xs) ≡ fold f (on_decoded f a d) xs
   unfolding fold
-  fold-append (Whole x) xs = refl
-  fold-append Malformed xs = refl
+  fold-append (Some x) xs = refl
+  fold-append None xs = refl
 
   pub fold_start : fold f a (steps_of plan) ≡ fold f a (rest plan 0)
   fold_start = ap (fold f a) (rest-start plan)
@@ -46,7 +45,7 @@ module _ {A : Type 0} (f : A → Step → A) (a : A) (plan : List ℕ) where
 module _ {A : Type 0} (f : A → Step → A) (plan : List ℕ) where
   -- a loop's turn: what is kept, w being the answer at the end
   pub fold-turn :
-      (w a b : A) (d : Decoded) (i : ℕ) → i < whole_steps plan → w ≡ fold f a (rest plan i) → d ≡ decode_at plan i → b ≡ on_decoded f a d
+      (w a b : A) (d : Option Step) (i : ℕ) → i < whole_steps plan → w ≡ fold f a (rest plan i) → d ≡ decode_at plan i → b ≡ on_decoded f a d
       → w ≡ fold f b (rest plan (i + 1))
   fold-turn w a b d i h e ed eb = e ∙ fold_next f a plan i h ∙ rw (eb, ed) refl
 

@@ -24,12 +24,6 @@ use Rattle.rules.proofs.Dealing.{here, dealt-unit, dealt-past}
 use Rattle.pass.specs.Passes.{unit_at}
 use Rattle.pass.proofs.Parts.{placed}
 
--- the other default serves within the list
-pub get_or-within : (l : List ℕ) (j d e : ℕ) → j < length l → get_or l j d ≡ get_or l j e
-get_or-within [] j d e h = absurd (omega arith)
-get_or-within (x ∷ l) zero d e h = refl
-get_or-within (x ∷ l) (suc j) d e h = get_or-within l j d e (omega arith)
-
 module _ (us : List ℕ) (k : ℕ) where
   -- what is dealt to piece j: of the k lowest the one at place j
   abbrev pub unit : ℕ → ℕ

@@ -1,12 +1,10 @@
 -- The one pass over a plan: what it keeps, what a step does to it, and the verdict of rules 2 to 5 on what was seen. Laws in proofs/ say that it decides the
 -- rules.
-use Rattle.std.specs.Prelude.{ℕ, ◌≡◌, Bool, true, false, not, ◌&&◌, ◌||◌, cond, List, get_or, eqb}
+use Rattle.std.specs.Prelude.{ℕ, ◌≡◌, Bool, true, false, not, ◌&&◌, ◌||◌, cond, List, get_or, eqb, Option, Some, None, is_some}
 use Rattle.layout.specs.declared.Shape.{Shape}
 use Rattle.layout.specs.Layout.{X}
 use Rattle.steps.specs.declared.Step.{Step}
 use Rattle.steps.specs.declared.Step.TheVariants.{Data, Map, Link, Fence}
-use Rattle.steps.specs.declared.Decoded.{Decoded}
-use Rattle.steps.specs.declared.Decoded.TheVariants.{Whole, Malformed}
 use Rattle.steps.specs.declared.Request.{Request}
 use Rattle.steps.specs.declared.Request.TheVariants.{Write, Discard}
 use Rattle.steps.specs.Steps.{steps_of, word_of}
@@ -14,7 +12,6 @@ use Rattle.rules.specs.Rules.{Known, rule1}
 use Rattle.tally.specs.Tallies.{fold, expected, tick_off, complete}
 use Rattle.pass.specs.declared.Order.{Order}
 use Rattle.pass.specs.declared.Seen.{Seen}
-use Rattle.pass.specs.declared.Passed.{Passed}
 
 -- what is known, with the free units given as a list
 abbrev pub known_by : Shape → List ℕ → (ℕ → Bool) → Bool → Known
@@ -22,9 +19,9 @@ known_by g free maps m = record { shape = g; free_units = free; map_free = maps;
 
 module _ {A : Type 0} where
   -- a malformed step changes nothing
-  abbrev pub on_decoded : (A → Step → A) → A → Decoded → A
-  on_decoded f a (Whole x) = f a x
-  on_decoded f a Malformed = a
+  abbrev pub on_decoded : (A → Step → A) → A → Option Step → A
+  on_decoded f a (Some x) = f a x
+  on_decoded f a None = a
 
 -- ---- rule 5: whether there was a step and a LINK, whether the last step was a FENCE, and whether all stood in order so far
 
@@ -103,10 +100,10 @@ unseen k words links = record {
   order = no_order;
 }
 
--- what the pass answers: whether rule 1 is kept, and where it is, what was seen
-pub record Passes (g : Shape) (i : ℕ) (unit word : ℕ → ℕ) (start : Seen) (plan : List ℕ) (r : Passed) : Type 0 where
-  pub decides : r.ranged ≡ rule1 g plan
-  pub holds : r.ranged ≡ true → r.seen ≡ fold (see i unit word) start (steps_of plan)
+-- what the pass answers: where rule 1 is kept, what was seen
+pub record Passes (g : Shape) (i : ℕ) (unit word : ℕ → ℕ) (start : Seen) (plan : List ℕ) (r : Option Seen) : Type 0 where
+  pub decides : is_some r ≡ rule1 g plan
+  pub holds : (st : Seen) → r ≡ Some st → st ≡ fold (see i unit word) start (steps_of plan)
 
 -- ---- the lowest of rules 2 to 5 that is broken, by what was seen
 

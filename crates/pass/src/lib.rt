@@ -16,6 +16,7 @@ pub struct Order {
 
 // What is kept of the steps so far: tallies of rule 2's pieces, of rule 3's words and of rule 4's LINK steps; the map of the first MAP step, X before it; the
 // word that the last LINK step stores; and the order of rule 5. Words, then truth values: a copy has no padding between them to carry along.
+// As it is: `map` and `linked` are words with X among them, since rule 4 compares the two, X too (`target`, `keeps4`): an Option would be undone there.
 #[derive(Clone, Copy)]
 pub struct Seen {
     pub pieces: u64,
@@ -26,9 +27,12 @@ pub struct Seen {
     pub order: Order,
 }
 
-// What the pass over a plan answers: whether rule 1 is kept, and what was seen.
+// What a request's plan is due: its LINK is of the chunk, the first `heads` words of its map hold the size, and piece j goes on the unit at place j of those
+// dealt, as the word after the heads says.
 #[derive(Clone, Copy)]
-pub struct Passed {
-    pub ranged: bool,
-    pub seen: Seen,
+pub struct Due<'a> {
+    pub chunk: u64,
+    pub heads: u32,
+    pub size: u64,
+    pub dealt: &'a [u32],
 }

@@ -1,4 +1,5 @@
 -- The planner's own plans keep every rule of the checker.
+use Rattle.std.specs.Prelude.{Option, Some, None, Ok}
 use Prim.Native.Nat.{ℕ, ◌+◌, ◌-◌, ◌*◌, ◌%◌, ◌≤◌, ◌<◌}
 use native.Mathlib.Omega.{arith}
 use mathlib.Core.Path.{◌≡◌, refl, ap, sym, ◌∙◌, fun_ext}
@@ -25,18 +26,13 @@ use Rattle.image.specs.Soundness.{mapped}
 use Rattle.image.specs.Claims.{Tested}
 use Rattle.image.specs.Free.{free_unit, free_map, free_units, free_maps}
 use Rattle.image.proofs.Room.{free_unit-below, free_map-below, some-map-free}
-use Rattle.steps.specs.declared.Value.{Value}
-use Rattle.steps.specs.declared.Value.TheVariants.{Number, Absent}
 use Rattle.steps.specs.declared.Step.{Step}
 use Rattle.steps.specs.declared.Step.TheVariants.{Data, Map, Link, Fence}
-use Rattle.steps.specs.declared.Decoded.{Decoded}
-use Rattle.steps.specs.declared.Decoded.TheVariants.{Whole}
 use Rattle.steps.specs.declared.Request.{Request}
 use Rattle.steps.specs.declared.Request.TheVariants.{Write, Discard}
 use Rattle.steps.specs.Steps.{step_bytes, need_of, good_chunk, good_size, word_of, decode_at, steps_of, encode_all}
 use Rattle.steps.specs.Encodable.{Each, ValueFits, Fits}
 use Rattle.steps.proofs.Codec.{each_map, decoded, whole-encoded, steps-encoded, length-encoded}
-use Rattle.rules.specs.declared.Checked.TheVariants.{Accepted as Accept}
 use Rattle.rules.specs.Rules.{max_steps, collect, every, piece_in, unit_in, map_in, word_in, link_in, linked_in, unit_of, word_for, data_fits, map_fits, plan_map, ends_in, before_link, after_link, once_each, links_are, size_value, value_below, word_in_range, in_range, whole_in_range, rule1, rule2, rule3, rule4, rule5, known_of, checked, pieces, units, maps, words, links, linked}
 use Rattle.rules.specs.Reading.{At}
 use Rattle.rules.proofs.Places.{at-get_or, get_d_at, at-below, at-member}
@@ -53,9 +49,9 @@ InRange g x = in_range g x ≡ true
 
 module _ (g : Shape) (l : Limits g) where
   -- a step in range has bytes of its own: the limits leave room for X in a field
-  value-small : (n : ℕ) (v : Value) → n < 4294967295 → value_below n v ≡ true → ValueFits v
-  value-small n (Number a) h e = let b = ltb-true a n e in omega arith
-  value-small n Absent h e = tt
+  value-small : (n : ℕ) (v : Option ℕ) → n < 4294967295 → value_below n v ≡ true → ValueFits v
+  value-small n (Some a) h e = let b = ltb-true a n e in omega arith
+  value-small n None h e = tt
 
   small : (x : Step) → InRange g x → Fits x
   small (Data u j w) e =
@@ -78,13 +74,13 @@ module _ (g : Shape) (l : Limits g) where
   small Fence e = tt
 
   all_whole :
-      (f : ℕ → Decoded) (is : List ℕ) (xs : List Step) → map f is ≡ map Whole xs → Each (InRange g) xs → all (λ i. whole_in_range g (f i)) is ≡ true
+      (f : ℕ → Option Step) (is : List ℕ) (xs : List Step) → map f is ≡ map Some xs → Each (InRange g) xs → all (λ i. whole_in_range g (f i)) is ≡ true
   unfolding all
   all_whole f [] xs e r = refl
   all_whole f (i ∷ is) [] e r = absurd (let z : ◌≡◌ {A = ℕ} 0 1 = cc in omega arith)
   all_whole f (i ∷ is) (x ∷ xs) e r =
-      let here : f i ≡ Whole x = cc in
-      let rest : map f is ≡ map Whole xs = cc in
+      let here : f i ≡ Some x = cc in
+      let rest : map f is ≡ map Some xs = cc in
       rw here (and_intro (in_range g x) (all (λ k. whole_in_range g (f k)) is) r.0 (all_whole f is xs rest r.1))
 
   module _ (xs : List Step) (r : Each (InRange g) xs) where
@@ -151,19 +147,19 @@ module _ (s : List ℕ) (i size : ℕ) (us : List ℕ) (m : ℕ) (l : Limits (sh
   unfolding unit_value
   unit-in j = ⊎_elim (λ e. rw e (lt-ltb (get_or us j 0) g.n (unit-below j (ltb-true j k e)))) (λ e. rw e) (either (ltb j k))
 
-  size_word : (j : ℕ) (v : Value) → ltb j (head g) ≡ true → word_in_range g j v ≡ size_value g v
+  size_word : (j : ℕ) (v : Option ℕ) → ltb j (head g) ≡ true → word_in_range g j v ≡ size_value g v
   unfolding word_in_range
   size_word j v e = cond-true (ltb j (head g)) (size_value g v) (value_below g.n v) e
 
-  unit-word : (j : ℕ) (v : Value) → ltb j (head g) ≡ false → word_in_range g j v ≡ value_below g.n v
+  unit-word : (j : ℕ) (v : Option ℕ) → ltb j (head g) ≡ false → word_in_range g j v ≡ value_below g.n v
   unfolding word_in_range
   unit-word j v e = cond-false (ltb j (head g)) (size_value g v) (value_below g.n v) e
 
   value_in : (j : ℕ) → word_in_range g j (value_for (head g) size us j) ≡ true
   value_in j =
       ⊎_elim
-      (λ e. ap (word_in_range g j) (in_head (head g) (Number size) (unit_value us) j (ltb-true j (head g) e)) ∙ size_word j (Number size) e ∙ sized)
-      (λ e. ap (word_in_range g j) (past_head (head g) (Number size) (unit_value us) j (ltb-false j (head g) e))
+      (λ e. ap (word_in_range g j) (in_head (head g) (Some size) (unit_value us) j (ltb-true j (head g) e)) ∙ size_word j (Some size) e ∙ sized)
+      (λ e. ap (word_in_range g j) (past_head (head g) (Some size) (unit_value us) j (ltb-false j (head g) e))
       ∙ unit-word j (unit_value us (j - head g)) e
       ∙ unit-in (j - head g))
       (either (ltb j (head g)))
@@ -244,7 +240,7 @@ module _ (s : List ℕ) (i size : ℕ) (us : List ℕ) (m : ℕ) (l : Limits (sh
   -- word j of the map as it is stored
   word-of : (j : ℕ) → word_of (value_for (head g) size us j) ≡ word_for g size xs j
   word-of j =
-      after-ap word_of (head g) (Number size) (unit_value us) j
+      after-ap word_of (head g) (Some size) (unit_value us) j
       ∙ ap (λ (f : ℕ → ℕ). after_head (head g) size f j) (fun_ext (λ a. sym (unit-of a)))
 
   stores : every (map_fits m (free_map s) (word_for g size xs)) xs ≡ true
@@ -321,7 +317,7 @@ module _ (s : List ℕ) (i : ℕ) (l : Limits (shape_of s)) (chunk : i < (shape_
     where
       go : (b : Bool) → mapped s i ≡ b → Unbroken s (Discard i) (encode_all (plan_of (known_of s (Discard i)) (Discard i)))
       go true e =
-          let xs : List Step = Link i Absent ∷ Fence ∷ [] in
+          let xs : List Step = Link i None ∷ Fence ∷ [] in
           let r : Each (InRange (shape_of s)) xs = (rw (lt-ltb i (shape_of s).c chunk), (refl, tt)) in
           let back = read_back (shape_of s) l xs r in
           rw e (record {
@@ -394,7 +390,7 @@ module _ (s : List ℕ) (i size : ℕ) (z : Tested s) (gc : good_chunk (shape_of
 
 pub planned-accepted :
     (s : List ℕ) (r : Request) → Tested s → good_chunk (shape_of s) r ≡ true → good_size (shape_of s) r ≡ true → need_of r ≤ length (free_units s)
-    → checked s r (encode_all (plan_of (known_of s r) r)) ≡ Accept
+    → checked s r (encode_all (plan_of (known_of s r) r)) ≡ Ok tt
 planned-accepted s (Write i size) z gc gs room =
     accepted s (Write i size) (encode_all (plan_of (known_of s (Write i size)) (Write i size)))
     (record { sound = z; chunk = gc; size = gs; rules = plan-unbroken s i size z gc gs room })

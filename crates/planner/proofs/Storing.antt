@@ -1,14 +1,14 @@
 -- The planner's steps stored in a plan's bytes, one after the other.
+use Rattle.std.specs.Prelude.{Some}
 use Prim.Native.Nat.{ℕ, ◌+◌, ◌-◌, ◌≤◌, ◌<◌}
-use native.Mathlib.Nat.{add_assoc, add-zero, sub-zero}
+use native.Mathlib.Nat.{add_assoc}
 use native.Mathlib.Omega.{arith}
 use mathlib.Core.Path.{◌≡◌, ap, sym, ◌∙◌}
 use mathlib.Core.List.{List, [], ◌∷◌, ◌++◌, map}
 use lib.ListN.{length, length-append}
-use Rattle.search.specs.Search.{from, below}
+use Rattle.search.specs.Search.{from}
 use Rattle.search.proofs.Ranges.{from_next, from_end}
 use Rattle.search.proofs.Mapping.{length-map-from}
-use Rattle.steps.specs.declared.Value.TheVariants.{Number}
 use Rattle.steps.specs.declared.Step.{Step}
 use Rattle.steps.specs.declared.Step.TheVariants.{Link, Fence}
 use Rattle.steps.specs.Steps.{put_steps}
@@ -18,9 +18,6 @@ use Rattle.planner.specs.Planner.{data_step, data_steps, map_step, map_steps, li
 -- ---- a loop that stores step f j in turn j, from step `at` on
 
 module _ (f : ℕ → Step) (out : List ℕ) (at n : ℕ) where
-  pub steps-start : put_steps out (at + 0) (map f (from 0 (n - 0))) ≡ put_steps out at (map f (below n))
-  steps-start = rw (add-zero, sub-zero)
-
   module _ (j : ℕ) where
     pub steps-turn :
         j < n
@@ -53,11 +50,11 @@ length-write_steps heads size us m words i =
 module _ (out : List ℕ) where
   pub link-stored :
       (at i m : ℕ)
-      → put_steps (put_steps (put_steps out at (Fence ∷ [])) (at + 1) (Link i (Number m) ∷ [])) (at + 2) (Fence ∷ []) ≡ put_steps out at (link_steps i m)
+      → put_steps (put_steps (put_steps out at (Fence ∷ [])) (at + 1) (Link i (Some m) ∷ [])) (at + 2) (Fence ∷ []) ≡ put_steps out at (link_steps i m)
   link-stored at i m =
-      ap (λ n. put_steps (put_steps (put_steps out at (Fence ∷ [])) (at + 1) (Link i (Number m) ∷ [])) n (Fence ∷ [])) (sym (add_assoc at 1 1))
-      ∙ put_steps-cons (put_steps out at (Fence ∷ [])) (at + 1) (Link i (Number m)) (Fence ∷ [])
-      ∙ put_steps-cons out at Fence (Link i (Number m) ∷ Fence ∷ [])
+      ap (λ n. put_steps (put_steps (put_steps out at (Fence ∷ [])) (at + 1) (Link i (Some m) ∷ [])) n (Fence ∷ [])) (sym (add_assoc at 1 1))
+      ∙ put_steps-cons (put_steps out at (Fence ∷ [])) (at + 1) (Link i (Some m)) (Fence ∷ [])
+      ∙ put_steps-cons out at Fence (Link i (Some m) ∷ Fence ∷ [])
 
   pub write-stored :
       (heads size : ℕ) (us : List ℕ) (m words i : ℕ)

@@ -1,4 +1,5 @@
 -- The theorems of this crate that a reader wants.
+use Rattle.std.specs.Prelude.{Result, Ok, Err, ⊤}
 use Prim.Native.Nat.{ℕ, ◌+◌, ◌-◌, ◌*◌, ◌≤◌, ◌<◌}
 use native.Mathlib.Omega.{arith}
 use mathlib.Core.Path.{◌≡◌, refl, ap, sym, subst, ◌∙◌}
@@ -16,8 +17,6 @@ use Rattle.layout.specs.declared.Refusal.{Refusal}
 use Rattle.layout.specs.declared.Refusal.TheVariants.{Range, Size, NoRoom, Small}
 use Rattle.layout.specs.Layout.{X, first_edition, shape_of, units_for, head, map_words}
 use Rattle.layout.proofs.Limits.{fitting-limits, map-words}
-use Rattle.image.specs.declared.Verdict.{Verdict}
-use Rattle.image.specs.declared.Verdict.TheVariants.{Passed, Refused as Unsound}
 use Rattle.image.specs.Claims.{Tested}
 use Rattle.image.specs.Verdicts.{verdict}
 use Rattle.image.specs.Free.{free_unit, free_map, free_units, free_maps}
@@ -29,12 +28,9 @@ use Rattle.steps.specs.declared.Request.{Request}
 use Rattle.steps.specs.declared.Request.TheVariants.{Write, Discard}
 use Rattle.steps.specs.Steps.{step_bytes, chunk_of, need_of, good_chunk, good_size, encode_all}
 use Rattle.steps.proofs.Codec.{length-encoded}
-use Rattle.rules.specs.declared.Checked.TheVariants.{Accepted}
 use Rattle.rules.specs.Rules.{units, plan_map, known_of, checked}
 use Rattle.rules.specs.Reading.{GoodRequest}
 use Rattle.rules.proofs.Good.{good-told, chunk-tested, size-tested}
-use Rattle.planner.specs.declared.Planned.{Planned}
-use Rattle.planner.specs.declared.Planned.TheVariants.{Steps, Refused}
 use Rattle.planner.specs.Planner.{lowest_map, plan_of, if_map, if_room, plan_in, plan_answer, written, plan_out}
 use Rattle.planner.proofs.Storing.{length-write_steps}
 use Rattle.planner.proofs.Accepted.{lowest-free, plan-units, plan-map, planned-accepted}
@@ -42,7 +38,7 @@ use Rattle.planner.proofs.Accepted.{lowest-free, plan-units, plan-map, planned-a
 -- ---- a free map is never wanting
 
 -- Of what is known of a sound image no write is refused for want of a free map: 9 is given for units alone.
-pub map-always : (s : List ℕ) (r : Request) (answer : Planned) → verdict s ≡ Passed → if_map (known_of s r) r answer ≡ answer
+pub map-always : (s : List ℕ) (r : Request) (answer : Result ℕ Refusal) → verdict s ≡ Ok tt → if_map (known_of s r) r answer ≡ answer
 unfolding free_maps
 map-always s (Write i size) answer z = rw (lt-ltb _ _ (free_map-below s (first_or X (free_maps s)) (lowest-free s (passed-tested s z))))
 map-always s (Discard i) answer z = refl
@@ -51,7 +47,7 @@ map-always s (Discard i) answer z = refl
 
 -- the request is good, on a sound image
 pub record Good (s : List ℕ) (r : Request) : Type 0 where
-  pub sound : verdict s ≡ Passed
+  pub sound : verdict s ≡ Ok tt
   pub request : GoodRequest (shape_of s) r
 
 -- and n steps were written
@@ -65,25 +61,25 @@ impossible : {A : Type 0} → ◌≡◌ {A = ℕ} 0 1 → A
 impossible e = absurd (omega arith)
 
 -- the four tests of a request on a sound image
-abbrev tests : Bool → Bool → Bool → Bool → ℕ → ℕ → Planned
+abbrev tests : Bool → Bool → Bool → Bool → ℕ → ℕ → Result ℕ Refusal
 tests a b c d free steps =
-    cond a (cond b (cond c (Refused (NoRoom free)) (cond d (Refused (Small (step_bytes * steps))) (Steps steps))) (Refused Size)) (Refused Range)
+    cond a (cond b (cond c (Err (NoRoom free)) (cond d (Err (Small (step_bytes * steps))) (Ok steps))) (Err Size)) (Err Range)
 
-steps-found : (a b c d : Bool) (free steps n : ℕ) → tests a b c d free steps ≡ Steps n → (a ≡ true) × (b ≡ true) × (c ≡ false) × (d ≡ false) × (steps ≡ n)
+steps-found : (a b c d : Bool) (free steps n : ℕ) → tests a b c d free steps ≡ Ok n → (a ≡ true) × (b ≡ true) × (c ≡ false) × (d ≡ false) × (steps ≡ n)
 steps-found true true false false free steps n e = (refl, refl, refl, refl, cc)
 steps-found true true false true free steps n e = impossible cc
 steps-found true true true d free steps n e = impossible cc
 steps-found true false c d free steps n e = impossible cc
 steps-found false b c d free steps n e = impossible cc
 
-room-found : (a b c d : Bool) (free steps n : ℕ) → tests a b c d free steps ≡ Refused (NoRoom n) → (a ≡ true) × (b ≡ true) × (c ≡ true) × (free ≡ n)
+room-found : (a b c d : Bool) (free steps n : ℕ) → tests a b c d free steps ≡ Err (NoRoom n) → (a ≡ true) × (b ≡ true) × (c ≡ true) × (free ≡ n)
 room-found true true true d free steps n e = (refl, refl, refl, cc)
 room-found true true false true free steps n e = impossible cc
 room-found true true false false free steps n e = impossible cc
 room-found true false c d free steps n e = impossible cc
 room-found false b c d free steps n e = impossible cc
 
-tested-is : (s : List ℕ) (r : Request) (room : ℕ) → verdict s ≡ Passed
+tested-is : (s : List ℕ) (r : Request) (room : ℕ) → verdict s ≡ Ok tt
     → tests (good_chunk (shape_of s) r) (good_size (shape_of s) r) (ltb (length (free_units s)) (need_of r)) (ltb room (step_bytes * length (plan_of (known_of s r) r)))
     (length (free_units s)) (length (plan_of (known_of s r) r))
     ≡ plan_in (known_of s r) r room
@@ -91,13 +87,13 @@ unfolding plan_in
 tested-is s r room e = rw (map-always s r (if_room room (length (plan_of (known_of s r) r))) e)
 
 module _ (s : List ℕ) (r : Request) (room n : ℕ) where
-  pub answered : plan_answer s r room ≡ Steps n → Answered s r room n
+  pub answered : plan_answer s r room ≡ Ok n → Answered s r room n
   unfolding plan_in
   answered e = at (verdict s) refl e
     where
-      at : (v : Verdict) → verdict s ≡ v → if_sound v Refused (plan_in (known_of s r) r room) ≡ Steps n → Answered s r room n
-      at (Unsound x) p h = impossible cc
-      at Passed p h =
+      at : (v : Result ⊤ Refusal) → verdict s ≡ v → if_sound v Err (plan_in (known_of s r) r room) ≡ Ok n → Answered s r room n
+      at (Err x) p h = impossible cc
+      at (Ok tt) p h =
           let steps = length (plan_of (known_of s r) r) in
           let f = steps-found (good_chunk (shape_of s) r) (good_size (shape_of s) r) (ltb (length (free_units s)) (need_of r)) (ltb room (step_bytes * steps))
           (length (free_units s)) steps n (tested-is s r room p ∙ h) in
@@ -111,18 +107,18 @@ module _ (s : List ℕ) (r : Request) (room n : ℕ) where
 -- ---- "the planner's plans pass"
 
 -- Whenever the planner answers n steps, the first 16·n bytes of the lent output are then those of its plan.
-pub written-is-plan : (s : List ℕ) (r : Request) (out : List ℕ) (n : ℕ) → plan_answer s r (length out) ≡ Steps n
+pub written-is-plan : (s : List ℕ) (r : Request) (out : List ℕ) (n : ℕ) → plan_answer s r (length out) ≡ Ok n
     → take (step_bytes * n) (plan_out s r out) ≡ encode_all (plan_of (known_of s r) r)
 written-is-plan s r out n e =
     let a = answered s r (length out) n e in
     let xs = plan_of (known_of s r) r in
-    let bytes : plan_out s r out ≡ written (Steps n) xs out = ap (λ (q : Planned). written q xs out) e in
+    let bytes : plan_out s r out ≡ written (Ok n) xs out = ap (λ (q : Result ℕ Refusal). written q xs out) e in
     let long : length (encode_all xs) ≡ step_bytes * n = length-encoded xs ∙ ap (λ (k : ℕ). step_bytes * k) (sym a.steps) in
     ap (take (step_bytes * n)) bytes ∙ take_at (encode_all xs) (drop (step_bytes * n) out) (step_bytes * n) long
 
 -- The checker accepts them, for the image and the request they were made for.
-pub own-plans-pass : (s : List ℕ) (r : Request) (out : List ℕ) (n : ℕ) → plan_answer s r (length out) ≡ Steps n
-    → checked s r (take (step_bytes * n) (plan_out s r out)) ≡ Accepted
+pub own-plans-pass : (s : List ℕ) (r : Request) (out : List ℕ) (n : ℕ) → plan_answer s r (length out) ≡ Ok n
+    → checked s r (take (step_bytes * n) (plan_out s r out)) ≡ Ok tt
 own-plans-pass s r out n e =
     let a = answered s r (length out) n e in
     let good = a.good.request in
@@ -133,17 +129,17 @@ own-plans-pass s r out n e =
 
 module _ (s : List ℕ) (r : Request) (room : ℕ) where
   -- It is given exactly for a good request on a sound image that needs more units than are free, with the count of those.
-  pub refused-is-no-room : (n : ℕ) → plan_answer s r room ≡ Refused (NoRoom n) → Good s r × (n ≡ length (free_units s)) × (n < need_of r)
+  pub refused-is-no-room : (n : ℕ) → plan_answer s r room ≡ Err (NoRoom n) → Good s r × (n ≡ length (free_units s)) × (n < need_of r)
   unfolding plan_in
   refused-is-no-room n e = at (verdict s) refl e
     where
-      of_image : (x : Refusal) → verdict s ≡ Unsound x → Refused x ≡ Refused (NoRoom n) → ⊥
-      of_image x p h = let q : x ≡ NoRoom n = cc in refused-row s (NoRoom n) (p ∙ ap Unsound q)
+      of_image : (x : Refusal) → verdict s ≡ Err x → ◌≡◌ {A = Result ℕ Refusal} (Err x) (Err (NoRoom n)) → ⊥
+      of_image x p h = let q : x ≡ NoRoom n = cc in refused-row s (NoRoom n) (p ∙ ap Err q)
 
-      at : (v : Verdict) → verdict s ≡ v → if_sound v Refused (plan_in (known_of s r) r room) ≡ Refused (NoRoom n)
+      at : (v : Result ⊤ Refusal) → verdict s ≡ v → if_sound v Err (plan_in (known_of s r) r room) ≡ Err (NoRoom n)
           → Good s r × (n ≡ length (free_units s)) × (n < need_of r)
-      at (Unsound x) p h = absurd (of_image x p h)
-      at Passed p h =
+      at (Err x) p h = absurd (of_image x p h)
+      at (Ok tt) p h =
           let steps = length (plan_of (known_of s r) r) in
           let f = room-found (good_chunk (shape_of s) r) (good_size (shape_of s) r) (ltb (length (free_units s)) (need_of r)) (ltb room (step_bytes * steps))
           (length (free_units s)) steps n (tested-is s r room p ∙ h) in
@@ -151,7 +147,7 @@ module _ (s : List ℕ) (r : Request) (room : ℕ) where
           let z = f.3 in
           (record { sound = p; request = good-told (shape_of s) r (ltb-true (chunk_of r) (shape_of s).c f.0) f.1 }, sym z, omega arith)
 
-  pub no-room-is-refused : Good s r → length (free_units s) < need_of r → plan_answer s r room ≡ Refused (NoRoom (length (free_units s)))
+  pub no-room-is-refused : Good s r → length (free_units s) < need_of r → plan_answer s r room ≡ Err (NoRoom (length (free_units s)))
   unfolding plan_in
   no-room-is-refused g h =
       let good = g.request in
@@ -164,7 +160,7 @@ need-few s (Discard i) g = omega arith
 
 -- "Refusal 9 never occurs for one write when N-R is at least (C+1)·P."
 pub always-room : (s : List ℕ) (r : Request) (room n : ℕ) → ((shape_of s).c + 1) * (shape_of s).p ≤ (shape_of s).n - (shape_of s).r
-    → plan_answer s r room ≡ Refused (NoRoom n) → ⊥
+    → plan_answer s r room ≡ Err (NoRoom n) → ⊥
 always-room s r room n h e =
     let f = refused-is-no-room s r room n e in
     let q : n ≡ length (free_units s) = f.1 in
@@ -173,7 +169,7 @@ always-room s r room n h e =
 
 -- 01's "With N at least (C+1)·P it never does for one write" is its instance: edition 1 reserves no unit.
 pub always-room-first : (s : List ℕ) (r : Request) (room n : ℕ) → (shape_of s).edition ≡ first_edition → ((shape_of s).c + 1) * (shape_of s).p ≤ (shape_of s).n
-    → plan_answer s r room ≡ Refused (NoRoom n) → ⊥
+    → plan_answer s r room ≡ Err (NoRoom n) → ⊥
 always-room-first s r room n first h e =
     let f = refused-is-no-room s r room n e in
     let none = (fitting-limits s (passed-tested s f.0.sound).fitting).r-first first in
@@ -181,7 +177,7 @@ always-room-first s r room n first h e =
 
 -- ---- the planner's write: "on the k lowest free units, rising; .. the lowest free map"
 
-module _ (s : List ℕ) (i size room n : ℕ) (e : plan_answer s (Write i size) room ≡ Steps n) where
+module _ (s : List ℕ) (i size room n : ℕ) (e : plan_answer s (Write i size) room ≡ Ok n) where
   told : Answered s (Write i size) room n
   told = answered s (Write i size) room n e
 

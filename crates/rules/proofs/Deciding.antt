@@ -1,19 +1,11 @@
 -- The lowest rule broken, rule by rule.
 use Prim.Native.Nat.{ℕ}
-use mathlib.Core.Path.{◌≡◌, refl, sym, ◌∙◌}
-use mathlib.Core.Bool.{Bool, true, false, not}
+use mathlib.Core.Path.{◌≡◌, refl}
+use mathlib.Core.Bool.{true, false}
 use mathlib.Core.List.{List}
-use borrow.Author.Tests.{not-true, not-false}
 use Rattle.steps.specs.declared.Request.{Request}
 use Rattle.steps.specs.Steps.{steps_of}
 use Rattle.rules.specs.Rules.{Known, rule1, rule2, rule3, rule4, rule5, broken_rule}
-
--- a rule's test, and what it says of the rule
-pub broke : {t b : Bool} → t ≡ b → not t ≡ true → b ≡ false
-broke {t} e h = sym e ∙ not-true t h
-
-pub kept : {t b : Bool} → t ≡ b → not t ≡ false → b ≡ true
-kept {t} e h = sym e ∙ not-false t h
 
 module _ (kn : Known) (r : Request) (plan : List ℕ) where
   pub broken-1 : rule1 kn.shape plan ≡ false → 1 ≡ broken_rule kn r plan

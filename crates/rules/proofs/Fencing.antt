@@ -1,4 +1,5 @@
 -- Rule 5 to read against what is computed, both ways, where rule 4 is kept: there is one LINK, and it parts the plan.
+use Rattle.std.specs.Prelude.{Option}
 use Prim.Native.Nat.{ℕ, zero, suc, ◌+◌, ◌-◌, ◌<◌}
 use mathlib.Core.Path.{◌≡◌, refl, sym, ap, ◌∙◌, subst}
 use mathlib.Core.Logic.{◌⊎◌, inl, inr, ⊎_elim}
@@ -11,7 +12,6 @@ use borrow.Author.Tests.{eqb-true, eqb-false, eq-eqb}
 use Rattle.search.specs.Search.{member}
 use Rattle.search.proofs.Bools.{contradict, either, and_intro, and-four}
 use Rattle.search.proofs.Members.{member-nil, member-head}
-use Rattle.steps.specs.declared.Value.{Value}
 use Rattle.steps.specs.declared.Step.{Step}
 use Rattle.steps.specs.declared.Step.TheVariants.{Data, Map, Link, Fence}
 use Rattle.steps.specs.declared.Request.{Request}
@@ -67,7 +67,7 @@ ends-tested b (z ∷ (y ∷ ys)) (suc n) e h = ends-tested (is_fence z) (y ∷ y
 -- ---- the steps before the first LINK, and after it
 
 -- a plan with a LINK, cut at its first one
-pub split : (xs : List Step) → is_none (links xs) ≡ false → (c : ℕ) × (w : Value) × (xs ≡ before_link xs ++ (Link c w ∷ after_link xs))
+pub split : (xs : List Step) → is_none (links xs) ≡ false → (c : ℕ) × (w : Option ℕ) × (xs ≡ before_link xs ++ (Link c w ∷ after_link xs))
 unfolding collect link_in before_link after_link
 split [] h = contradict refl h
 split (Data u j w ∷ xs) h = let r = split xs h in (r.0, r.1, ap (λ (l : List Step). Data u j w ∷ l) r.2)
@@ -102,7 +102,7 @@ module _ (c : ℕ) (xs : List Step) (o : OneLink c xs) where
   abbrev a : List Step
   a = after_link xs
 
-  parted : (k : ℕ) × (v : Value) × (xs ≡ b ++ (Link k v ∷ a))
+  parted : (k : ℕ) × (v : Option ℕ) × (xs ≡ b ++ (Link k v ∷ a))
   unfolding link_in
   parted =
       let y = o.there in
@@ -114,7 +114,7 @@ module _ (c : ℕ) (xs : List Step) (o : OneLink c xs) where
       subst (λ (l : List Step). At l (length b + 0) (Link parted.0 parted.1)) (sym parted.2)
       (at_right b (Link parted.0 parted.1 ∷ a) 0 (Link parted.0 parted.1) refl)
 
-  link-place : (l k : ℕ) (v : Value) → At xs l (Link k v) → l ≡ length b + 0
+  link-place : (l k : ℕ) (v : Option ℕ) → At xs l (Link k v) → l ≡ length b + 0
   link-place l k v s = o.alone l (length b + 0) k parted.0 v parted.1 s link_here
 
   length-parts : length xs ≡ length b + suc (length a)

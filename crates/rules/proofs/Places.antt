@@ -1,4 +1,5 @@
 -- Steps and their places: what a list drawn from the steps, or a test of every step, says of the step at each place.
+use Rattle.std.specs.Prelude.{Option, Some, None}
 use Prim.Native.Nat.{ℕ, zero, suc, ◌+◌, ◌<◌, ◌≤◌}
 use mathlib.Core.Path.{◌≡◌, refl, sym, ap, ◌∙◌, subst}
 use mathlib.Core.Logic.{◌⊎◌, inl, inr}
@@ -11,8 +12,6 @@ use Rattle.search.proofs.Bools.{contradict, is_false, and_left, and_right, and_i
 use Rattle.search.proofs.Members.{member-nil, member-head, member-tail, member-append}
 use Rattle.search.proofs.Distinct.{distinct_nil, distinct_append, distinct-later, distinct_apart, distinct-few, distinct-place, disjoint-intro}
 use Rattle.steps.specs.declared.Step.{Step}
-use Rattle.steps.specs.declared.Decoded.{Decoded}
-use Rattle.steps.specs.declared.Decoded.TheVariants.{Whole, Malformed}
 use Rattle.steps.specs.Encodable.{Each}
 use Rattle.steps.specs.Steps.{whole_steps, decode_at, steps_append, steps_of}
 use Rattle.steps.proofs.Rest.{rest, rest-start, rest-next, rest_end}
@@ -196,59 +195,59 @@ module _ (plan : List ℕ) where
       let m = append-length (decode_at plan a) (rest plan (a + 1)) in
       omega arith
     where
-      append-length : (d : Decoded) (xs : List Step) → length (steps_append d xs) ≤ suc (length xs)
-      append-length (Whole x) xs = omega arith
-      append-length Malformed xs = omega arith
+      append-length : (d : Option Step) (xs : List Step) → length (steps_append d xs) ≤ suc (length xs)
+      append-length (Some x) xs = omega arith
+      append-length None xs = omega arith
 
   -- a plan has no more steps than whole ones
   pub length-steps : length (steps_of plan) ≤ whole_steps plan
   length-steps = let e = ap length (rest-start plan) in let l = length_rest 0 (whole_steps plan) (omega arith) in omega arith
 
-  rest-cons : (a : ℕ) (x : Step) → a < whole_steps plan → decode_at plan a ≡ Whole x → rest plan a ≡ x ∷ rest plan (a + 1)
-  rest-cons a x l e = rest-next plan a l ∙ ap (λ (d : Decoded). steps_append d (rest plan (a + 1))) e
+  rest-cons : (a : ℕ) (x : Step) → a < whole_steps plan → decode_at plan a ≡ Some x → rest plan a ≡ x ∷ rest plan (a + 1)
+  rest-cons a x l e = rest-next plan a l ∙ ap (λ (d : Option Step). steps_append d (rest plan (a + 1))) e
 
   -- where each is one of the four kinds, the step at place i is what the bytes of step i say
-  module _ (whole : (i : ℕ) → i < whole_steps plan → (x : Step) × (decode_at plan i ≡ Whole x)) where
-    rest_at : (a n : ℕ) → a + n ≡ whole_steps plan → (i : ℕ) (x : Step) → At (rest plan a) i x → (i < n) × (decode_at plan (a + i) ≡ Whole x)
+  module _ (whole : (i : ℕ) → i < whole_steps plan → (x : Step) × (decode_at plan i ≡ Some x)) where
+    rest_at : (a n : ℕ) → a + n ≡ whole_steps plan → (i : ℕ) (x : Step) → At (rest plan a) i x → (i < n) × (decode_at plan (a + i) ≡ Some x)
     rest_at a zero e i x h = absurd (subst (λ (l : List Step). At l i x) (rest_end plan a (omega arith)) h)
     rest_at a (suc n) e i x h =
         let f = whole a (omega arith) in
         go f.0 f.1 i (subst (λ (l : List Step). At l i x) (rest-cons a f.0 (omega arith) f.1) h)
         (λ j k. rest_at (a + 1) n (omega arith) j x k)
       where
-        go : (y : Step) → decode_at plan a ≡ Whole y → (i : ℕ) → At (y ∷ rest plan (a + 1)) i x
-            → ((j : ℕ) → At (rest plan (a + 1)) j x → (j < n) × (decode_at plan (a + 1 + j) ≡ Whole x))
-            → (i < suc n) × (decode_at plan (a + i) ≡ Whole x)
-        go y q zero k later = (omega arith, let e : a + 0 ≡ a = omega arith in ap (decode_at plan) e ∙ q ∙ ap Whole k)
+        go : (y : Step) → decode_at plan a ≡ Some y → (i : ℕ) → At (y ∷ rest plan (a + 1)) i x
+            → ((j : ℕ) → At (rest plan (a + 1)) j x → (j < n) × (decode_at plan (a + 1 + j) ≡ Some x))
+            → (i < suc n) × (decode_at plan (a + i) ≡ Some x)
+        go y q zero k later = (omega arith, let e : a + 0 ≡ a = omega arith in ap (decode_at plan) e ∙ q ∙ ap Some k)
         go y q (suc i) k later =
             let r = later i k in
             let b : i < n = r.0 in
             let e : a + suc i ≡ a + 1 + i = omega arith in
             (omega arith, ap (decode_at plan) e ∙ r.1)
 
-    at_rest : (a n : ℕ) → a + n ≡ whole_steps plan → (i : ℕ) (x : Step) → i < n → decode_at plan (a + i) ≡ Whole x → At (rest plan a) i x
+    at_rest : (a n : ℕ) → a + n ≡ whole_steps plan → (i : ℕ) (x : Step) → i < n → decode_at plan (a + i) ≡ Some x → At (rest plan a) i x
     at_rest a zero e i x l h = absurd (omega arith)
     at_rest a (suc n) e i x l h =
         let f = whole a (omega arith) in
         subst (λ (l : List Step). At l i x) (sym (rest-cons a f.0 (omega arith) f.1))
         (go f.0 f.1 i l h (λ j m k. at_rest (a + 1) n (omega arith) j x m k))
       where
-        inside : (x y : Step) → Whole x ≡ Whole y → x ≡ y
+        inside : (x y : Step) → Some x ≡ Some y → x ≡ y
         inside x y e = cc
 
-        go : (y : Step) → decode_at plan a ≡ Whole y → (i : ℕ) → i < suc n → decode_at plan (a + i) ≡ Whole x
-            → ((j : ℕ) → j < n → decode_at plan (a + 1 + j) ≡ Whole x → At (rest plan (a + 1)) j x)
+        go : (y : Step) → decode_at plan a ≡ Some y → (i : ℕ) → i < suc n → decode_at plan (a + i) ≡ Some x
+            → ((j : ℕ) → j < n → decode_at plan (a + 1 + j) ≡ Some x → At (rest plan (a + 1)) j x)
             → At (y ∷ rest plan (a + 1)) i x
         go y q zero l k later = let e : a ≡ a + 0 = omega arith in inside y x (sym q ∙ ap (decode_at plan) e ∙ k)
         go y q (suc i) l k later = let e : a + 1 + i ≡ a + suc i = omega arith in later i (omega arith) (ap (decode_at plan) e ∙ k)
 
-    pub step-told : (i : ℕ) (x : Step) → At (steps_of plan) i x → (i < whole_steps plan) × (decode_at plan i ≡ Whole x)
+    pub step-told : (i : ℕ) (x : Step) → At (steps_of plan) i x → (i < whole_steps plan) × (decode_at plan i ≡ Some x)
     step-told i x k =
         let r = rest_at 0 (whole_steps plan) (omega arith) i x (subst (λ (l : List Step). At l i x) (rest-start plan) k) in
         let e : i ≡ 0 + i = omega arith in
         (r.0, ap (decode_at plan) e ∙ r.1)
 
-    pub step-there : (i : ℕ) (x : Step) → i < whole_steps plan → decode_at plan i ≡ Whole x → At (steps_of plan) i x
+    pub step-there : (i : ℕ) (x : Step) → i < whole_steps plan → decode_at plan i ≡ Some x → At (steps_of plan) i x
     step-there i x l k =
         let e : 0 + i ≡ i = omega arith in
         subst (λ (l : List Step). At l i x) (sym (rest-start plan)) (at_rest 0 (whole_steps plan) (omega arith) i x l (ap (decode_at plan) e ∙ k))

@@ -1,4 +1,5 @@
 -- A property of every step of a plan, and what the checker's lists of pieces, units, maps, words and links tell of each step.
+use Rattle.std.specs.Prelude.{Option, Some, None}
 use Prim.Native.Nat.{ℕ, suc, ◌+◌, ◌*◌, ◌%◌, ◌<◌, ◌≤◌}
 use mathlib.Core.Path.{◌≡◌, refl, sym, ap, ◌∙◌, subst}
 use mathlib.Core.Logic.{◌⊎◌, inl, inr, ◌≢◌, ⊎_elim}
@@ -16,12 +17,8 @@ use Rattle.layout.proofs.Limits.{units-high}
 use Rattle.search.proofs.Bools.{contradict, either, and-three, and_left, and_right, cond-true, cond-false}
 use Rattle.search.proofs.Members.{all-at, member-nil, member-cons, member-head, member-tail}
 use Rattle.search.proofs.Distinct.{distinct_head, distinct_tail}
-use Rattle.steps.specs.declared.Value.{Value}
-use Rattle.steps.specs.declared.Value.TheVariants.{Number, Absent}
 use Rattle.steps.specs.declared.Step.{Step}
 use Rattle.steps.specs.declared.Step.TheVariants.{Data, Map, Link, Fence}
-use Rattle.steps.specs.declared.Decoded.{Decoded}
-use Rattle.steps.specs.declared.Decoded.TheVariants.{Whole, Malformed}
 use Rattle.steps.specs.Steps.{step_bytes, whole_steps, decode_at, steps_of, word_of}
 use Rattle.steps.specs.Encodable.{Each}
 use Rattle.search.proofs.Ranges.{below-member}
@@ -88,9 +85,9 @@ Spares w Fence = Unit {0}
 
 -- ---- rule 1
 
-whole_in : (g : Shape) (d : Decoded) → whole_in_range g d ≡ true → (x : Step) × (d ≡ Whole x) × InRange g x
-whole_in g (Whole x) h = (x, refl, h)
-whole_in g Malformed h = contradict h refl
+whole_in : (g : Shape) (d : Option Step) → whole_in_range g d ≡ true → (x : Step) × (d ≡ Some x) × InRange g x
+whole_in g (Some x) h = (x, refl, h)
+whole_in g None h = contradict h refl
 
 pub each-in-range : (g : Shape) (plan : List ℕ) → rule1 g plan ≡ true → Each (InRange g) (steps_of plan)
 unfolding rule1
@@ -98,7 +95,7 @@ each-in-range g plan h =
     let n = whole_steps plan in
     let test : ℕ → Bool = λ i. whole_in_range g (decode_at plan i) in
     let every_one = and_right (eqb (length plan % step_bytes) 0 && leb n max_steps) (all test (below n)) h in
-    let told : (i : ℕ) → i < n → (x : Step) × (decode_at plan i ≡ Whole x) × InRange g x =
+    let told : (i : ℕ) → i < n → (x : Step) × (decode_at plan i ≡ Some x) × InRange g x =
     λ i l. whole_in g (decode_at plan i) (all-at test (below n) every_one i (below-member i n l)) in
     each-place (InRange g) (steps_of plan) (λ i x s.
     let r = step-told plan (λ j l. ((told j l).0, (told j l).1)) i x s in
@@ -201,11 +198,11 @@ words-on k (Map m j v ∷ xs) h =
 words-on k (Link i v ∷ xs) h = words-on k xs h.1
 words-on k (Fence ∷ xs) h = words-on k xs h.1
 
-pub words_on-here : (m k j : ℕ) (v : Value) (xs : List Step) → m ≡ k → words_on k (Map m j v ∷ xs) ≡ j ∷ words_on k xs
+pub words_on-here : (m k j : ℕ) (v : Option ℕ) (xs : List Step) → m ≡ k → words_on k (Map m j v ∷ xs) ≡ j ∷ words_on k xs
 unfolding words_on
 words_on-here m k j v xs e = cond-true (eqb m k) (j ∷ words_on k xs) (words_on k xs) (eq-eqb m k e)
 
-pub words_on-other : (m k j : ℕ) (v : Value) (xs : List Step) → m ≢ k → words_on k (Map m j v ∷ xs) ≡ words_on k xs
+pub words_on-other : (m k j : ℕ) (v : Option ℕ) (xs : List Step) → m ≢ k → words_on k (Map m j v ∷ xs) ≡ words_on k xs
 unfolding words_on
 words_on-other m k j v xs n = cond-false (eqb m k) (j ∷ words_on k xs) (words_on k xs) (ne_eqb m k n)
 
@@ -245,10 +242,10 @@ words-below g (Link i v ∷ xs) h j m = words-below g xs h.1 j m
 words-below g (Fence ∷ xs) h j m = words-below g xs h.1 j m
 
 -- a value that a MAP step in range stores, a size or a unit, is small
-pub word_small : (g : Shape) (j : ℕ) (v : Value) → Limits g → word_in_range g j v ≡ true → value_below (max_chunk_bytes + 1) v ≡ true
+pub word_small : (g : Shape) (j : ℕ) (v : Option ℕ) → Limits g → word_in_range g j v ≡ true → value_below (max_chunk_bytes + 1) v ≡ true
 unfolding word_in_range
-word_small g j Absent l h = refl
-word_small g j (Number w) l h =
+word_small g j None l h = refl
+word_small g j (Some w) l h =
     ⊎_elim
     (λ q. let e = sym (cond-true (ltb j (head g)) (is_size g w) (ltb w g.n) q) ∙ h in
     let a = leb-true w (g.p * unit_bytes) (and_right (leb 1 w) (leb w (g.p * unit_bytes)) e) in

@@ -1,4 +1,5 @@
 -- Rules 1 to 4 to read against what is computed, both ways. Rule 3 is compared where rule 2 is kept, rule 4 where rule 3 is.
+use Rattle.std.specs.Prelude.{Option, Some, None}
 use Prim.Native.Nat.{ℕ, ◌+◌, ◌-◌, ◌*◌, ◌%◌, ◌<◌, ◌≤◌}
 use mathlib.Core.Path.{◌≡◌, refl, sym, ap, ◌∙◌, subst}
 use mathlib.Core.Logic.{⊎_elim}
@@ -15,12 +16,8 @@ use Rattle.search.proofs.Ranges.{below-member, all-below-intro}
 use Rattle.layout.specs.declared.Shape.{Shape}
 use Rattle.layout.specs.Layout.{X, unit_bytes, units_for, head, map_words, after_head}
 use Rattle.layout.proofs.Heads.{in_head, past_head, after-head}
-use Rattle.steps.specs.declared.Value.{Value}
-use Rattle.steps.specs.declared.Value.TheVariants.{Number, Absent}
 use Rattle.steps.specs.declared.Step.{Step}
 use Rattle.steps.specs.declared.Step.TheVariants.{Data, Map, Link, Fence}
-use Rattle.steps.specs.declared.Decoded.{Decoded}
-use Rattle.steps.specs.declared.Decoded.TheVariants.{Whole, Malformed}
 use Rattle.steps.specs.declared.Request.{Request}
 use Rattle.steps.specs.declared.Request.TheVariants.{Write, Discard}
 use Rattle.steps.specs.Steps.{step_bytes, whole_steps, decode_at, word_of}
@@ -33,31 +30,31 @@ use Rattle.rules.proofs.Dealing.{in_one, here, piece-in, piece-at, unit-at, data
 
 -- ---- rule 1
 
-value-told : (n : ℕ) (v : Value) → value_below n v ≡ true → ValueBelow n v
-value-told n (Number w) h = ltb-true w n h
-value-told n Absent h = tt
+value-told : (n : ℕ) (v : Option ℕ) → value_below n v ≡ true → ValueBelow n v
+value-told n (Some w) h = ltb-true w n h
+value-told n None h = tt
 
-value-tested : (n : ℕ) (v : Value) → ValueBelow n v → value_below n v ≡ true
-value-tested n (Number w) h = lt-ltb w n h
-value-tested n Absent h = refl
+value-tested : (n : ℕ) (v : Option ℕ) → ValueBelow n v → value_below n v ≡ true
+value-tested n (Some w) h = lt-ltb w n h
+value-tested n None h = refl
 
-size-told : (g : Shape) (v : Value) → size_value g v ≡ true → SizeValue g v
-size-told g (Number w) h =
+size-told : (g : Shape) (v : Option ℕ) → size_value g v ≡ true → SizeValue g v
+size-told g (Some w) h =
     let p = g.p * unit_bytes in (leb-true 1 w (and_left (leb 1 w) (leb w p) h), leb-true w p (and_right (leb 1 w) (leb w p) h))
-size-told g Absent h = contradict h refl
+size-told g None h = contradict h refl
 
-size-tested : (g : Shape) (v : Value) → SizeValue g v → size_value g v ≡ true
-size-tested g (Number w) h = let p = g.p * unit_bytes in and_intro (leb 1 w) (leb w p) (le-leb 1 w h.0) (le-leb w p h.1)
-size-tested g Absent h = absurd h
+size-tested : (g : Shape) (v : Option ℕ) → SizeValue g v → size_value g v ≡ true
+size-tested g (Some w) h = let p = g.p * unit_bytes in and_intro (leb 1 w) (leb w p) (le-leb 1 w h.0) (le-leb w p h.1)
+size-tested g None h = absurd h
 
-word-told : (g : Shape) (j : ℕ) (v : Value) → word_in_range g j v ≡ true → (j < head g → SizeValue g v) × (head g ≤ j → ValueBelow g.n v)
+word-told : (g : Shape) (j : ℕ) (v : Option ℕ) → word_in_range g j v ≡ true → (j < head g → SizeValue g v) × (head g ≤ j → ValueBelow g.n v)
 unfolding word_in_range
 word-told g j v h = (
   λ l. size-told g v (sym (cond-true (ltb j (head g)) (size_value g v) (value_below g.n v) (lt-ltb j (head g) l)) ∙ h),
   λ l. value-told g.n v (sym (cond-false (ltb j (head g)) (size_value g v) (value_below g.n v) (le-ltb j (head g) l)) ∙ h),
 )
 
-word-tested : (g : Shape) (j : ℕ) (v : Value) → (j < head g → SizeValue g v) → (head g ≤ j → ValueBelow g.n v) → word_in_range g j v ≡ true
+word-tested : (g : Shape) (j : ℕ) (v : Option ℕ) → (j < head g → SizeValue g v) → (head g ≤ j → ValueBelow g.n v) → word_in_range g j v ≡ true
 unfolding word_in_range
 word-tested g j v a b =
     ⊎_elim (λ l. cond-true (ltb j (head g)) (size_value g v) (value_below g.n v) l ∙ size-tested g v (a (ltb-true j (head g) l)))
@@ -85,9 +82,9 @@ bounds-tested g (Map k j v) h =
 bounds-tested g (Link i v) h = and_intro (ltb i g.c) (value_below g.m v) (lt-ltb i g.c h.0) (value-tested g.m v h.1)
 bounds-tested g Fence h = refl
 
-whole-told : (g : Shape) (d : Decoded) → whole_in_range g d ≡ true → (x : Step) × (d ≡ Whole x) × Bounded g x
-whole-told g (Whole x) h = (x, refl, bounds-told g x h)
-whole-told g Malformed h = contradict h refl
+whole-told : (g : Shape) (d : Option Step) → whole_in_range g d ≡ true → (x : Step) × (d ≡ Some x) × Bounded g x
+whole-told g (Some x) h = (x, refl, bounds-told g x h)
+whole-told g None h = contradict h refl
 
 module _ (g : Shape) (plan : List ℕ) where
   pub rule1-told : rule1 g plan ≡ true → Rule1 g plan
@@ -114,28 +111,28 @@ module _ (g : Shape) (plan : List ℕ) where
 
 -- ---- the numbers that each kind of step gives
 
-map-in : (x : Step) (n : ℕ) → member n (map_in x) ≡ true → (j : ℕ) × (v : Value) × (x ≡ Map n j v)
+map-in : (x : Step) (n : ℕ) → member n (map_in x) ≡ true → (j : ℕ) × (v : Option ℕ) × (x ≡ Map n j v)
 unfolding map_in
 map-in (Data u j w) n m = contradict m (member-nil n)
 map-in (Map k j v) n m = (j, v, ap (λ (z : ℕ). Map z j v) (sym (in_one n k m)))
 map-in (Link i v) n m = contradict m (member-nil n)
 map-in Fence n m = contradict m (member-nil n)
 
-word-in : (x : Step) (n : ℕ) → member n (word_in x) ≡ true → (k : ℕ) × (v : Value) × (x ≡ Map k n v)
+word-in : (x : Step) (n : ℕ) → member n (word_in x) ≡ true → (k : ℕ) × (v : Option ℕ) × (x ≡ Map k n v)
 unfolding word_in
 word-in (Data u j w) n m = contradict m (member-nil n)
 word-in (Map k j v) n m = (k, v, ap (λ (z : ℕ). Map k z v) (sym (in_one n j m)))
 word-in (Link i v) n m = contradict m (member-nil n)
 word-in Fence n m = contradict m (member-nil n)
 
-link-in : (x : Step) (n : ℕ) → member n (link_in x) ≡ true → (v : Value) × (x ≡ Link n v)
+link-in : (x : Step) (n : ℕ) → member n (link_in x) ≡ true → (v : Option ℕ) × (x ≡ Link n v)
 unfolding link_in
 link-in (Data u j w) n m = contradict m (member-nil n)
 link-in (Map k j v) n m = contradict m (member-nil n)
 link-in (Link i v) n m = (v, ap (λ (z : ℕ). Link z v) (sym (in_one n i m)))
 link-in Fence n m = contradict m (member-nil n)
 
-linked-in : (x : Step) (n : ℕ) → member n (linked_in x) ≡ true → (i : ℕ) × (v : Value) × (x ≡ Link i v) × (n ≡ word_of v)
+linked-in : (x : Step) (n : ℕ) → member n (linked_in x) ≡ true → (i : ℕ) × (v : Option ℕ) × (x ≡ Link i v) × (n ≡ word_of v)
 unfolding linked_in
 linked-in (Data u j w) n m = contradict m (member-nil n)
 linked-in (Map k j v) n m = contradict m (member-nil n)
@@ -151,19 +148,19 @@ few (Link i v) = (omega arith, omega arith, omega arith)
 few Fence = (omega arith, omega arith, omega arith)
 
 -- a step that gives a LINK's number is a LINK
-link-some : (x : Step) → 1 ≤ length (link_in x) → (i : ℕ) × (v : Value) × (x ≡ Link i v)
+link-some : (x : Step) → 1 ≤ length (link_in x) → (i : ℕ) × (v : Option ℕ) × (x ≡ Link i v)
 unfolding link_in
 link-some (Data u j w) h = absurd (omega arith)
 link-some (Map k j v) h = absurd (omega arith)
 link-some (Link i v) h = (i, v, refl)
 link-some Fence h = absurd (omega arith)
 
-one_link : (i : ℕ) (v : Value) → length (link_in (Link i v)) ≡ 1
+one_link : (i : ℕ) (v : Option ℕ) → length (link_in (Link i v)) ≡ 1
 unfolding link_in
 one_link i v = refl
 
 -- the MAP step of a word
-word_at : (xs : List Step) (j : ℕ) → member j (words xs) ≡ true → (i : ℕ) × (k : ℕ) × (v : Value) × At xs i (Map k j v)
+word_at : (xs : List Step) (j : ℕ) → member j (words xs) ≡ true → (i : ℕ) × (k : ℕ) × (v : Option ℕ) × At xs i (Map k j v)
 word_at xs j m = let r = collect-at word_in xs j m in let d = word-in r.1 j r.3 in (r.0, d.0, d.1, subst (At xs r.0) d.2 r.2)
 
 -- ---- rule 2
@@ -212,7 +209,7 @@ module _ (free : List ℕ) (xs : List Step) where
 -- ---- rule 3
 
 -- a MAP step, where there is one, is on the plan's map
-on-plan-map : (xs : List Step) (i m j : ℕ) (v : Value) → At xs i (Map m j v) → (i' : ℕ) × (j' : ℕ) × (v' : Value) × At xs i' (Map (plan_map xs) j' v')
+on-plan-map : (xs : List Step) (i m j : ℕ) (v : Option ℕ) → At xs i (Map m j v) → (i' : ℕ) × (j' : ℕ) × (v' : Option ℕ) × At xs i' (Map (plan_map xs) j' v')
 unfolding plan_map map_in
 on-plan-map xs i m j v h =
     let some : 1 ≤ length (maps xs) = at_length map_in xs i (Map m j v) h in
@@ -230,7 +227,7 @@ module _ (free : ℕ → Bool) (xs : List Step) where
     words-told h =
         let fits = maps_fit (plan_map xs) free word xs in
         let a = and_left (once_each p (words xs)) fits h in
-        let f : (i m j : ℕ) (v : Value) → At xs i (Map m j v) → (eqb (plan_map xs) m ≡ true) × (free m ≡ true) × (eqb (word_of v) (word j) ≡ true) =
+        let f : (i m j : ℕ) (v : Option ℕ) → At xs i (Map m j v) → (eqb (plan_map xs) m ≡ true) × (free m ≡ true) × (eqb (word_of v) (word j) ≡ true) =
         λ i m j v s.
         and-three (eqb (plan_map xs) m) (free m) (eqb (word_of v) (word j))
         (every-at (map_fits (plan_map xs) free word) xs i (Map m j v) (and_right (once_each p (words xs)) fits h) s) in
@@ -251,7 +248,7 @@ module _ (free : ℕ → Bool) (xs : List Step) where
         }
 
     module _ (h : MapWords p heads size k free xs) where
-      unit-stored : (i m j : ℕ) (v : Value) → At xs i (Map m (heads + j) v) → word_of v ≡ unit_of j xs
+      unit-stored : (i m j : ℕ) (v : Option ℕ) → At xs i (Map m (heads + j) v) → word_of v ≡ unit_of j xs
       unit-stored i m j v s =
           ⊎_elim
           (λ l. let b = ltb-true j k l in
@@ -261,7 +258,7 @@ module _ (free : ℕ → Bool) (xs : List Step) where
           h.rest i m j v (omega arith) s ∙ sym (unit_of-none j xs (λ q. let o = once-below k (pieces xs) ps j q in omega arith)))
           (either (ltb j k))
 
-      stores : (i m j : ℕ) (v : Value) → At xs i (Map m j v) → word_of v ≡ word j
+      stores : (i m j : ℕ) (v : Option ℕ) → At xs i (Map m j v) → word_of v ≡ word j
       stores i m j v s =
           ⊎_elim
           (λ l. let b = ltb-true j heads l in h.sizes i m j v b s ∙ sym (in_head heads size (λ a. unit_of a xs) j b))
@@ -324,14 +321,14 @@ module _ (xs : List Step) where
         let a = and-three (eqb (length (links xs)) n) (all (eqb c) (links xs)) (all (eqb w) (linked xs)) h in
         (eqb-true (length (links xs)) n a.0, a.1, a.2)
 
-    link-told : (i a : ℕ) (v : Value) → At xs i (Link a v) → (c ≡ a) × (w ≡ word_of v)
+    link-told : (i a : ℕ) (v : Option ℕ) → At xs i (Link a v) → (c ≡ a) × (w ≡ word_of v)
     unfolding link_in linked_in
     link-told i a v s = (
       eqb-true c a (all-at (eqb c) (links xs) parts.1 a (collect-in link_in xs i (Link a v) a s (here a))),
       eqb-true w (word_of v) (all-at (eqb w) (linked xs) parts.2 (word_of v) (collect-in linked_in xs i (Link a v) (word_of v) s (here (word_of v)))),
     )
 
-    some-link : n ≡ 1 → (i : ℕ) × (v : Value) × At xs i (Link c v)
+    some-link : n ≡ 1 → (i : ℕ) × (v : Option ℕ) × At xs i (Link c v)
     some-link e =
         let r = collect-at link_in xs (first_or 0 (links xs)) (first_member 0 (links xs) (let l = parts.0 in omega arith)) in
         let d = link-in r.1 (first_or 0 (links xs)) r.3 in
@@ -345,7 +342,7 @@ module _ (xs : List Step) where
       alone = λ i i' a a' v v' s t. single-place link_in xs i i' (Link a v) (Link a' v') (let l = parts.0 in omega arith) s t (omega arith) (omega arith);
     }
 
-  links-tested : (c w : ℕ) → OneLink c xs → ((i a : ℕ) (v : Value) → At xs i (Link a v) → word_of v ≡ w) → links_are 1 c w xs ≡ true
+  links-tested : (c w : ℕ) → OneLink c xs → ((i a : ℕ) (v : Option ℕ) → At xs i (Link a v) → word_of v ≡ w) → links_are 1 c w xs ≡ true
   unfolding links_are link_in linked_in
   links-tested c w o h =
       let few = collect-few link_in (λ x. (few x).2) xs (λ i j x y s t p q.
@@ -367,31 +364,31 @@ module _ (xs : List Step) where
       let d = linked-in r.1 n r.3 in
       eq-eqb w n (sym (h r.0 d.0 d.1 (subst (At xs r.0) d.2 r.2)) ∙ sym d.3)))
     where
-      same-chunk : (a b : ℕ) (v v' : Value) → Link a v ≡ Link b v' → a ≡ b
+      same-chunk : (a b : ℕ) (v v' : Option ℕ) → Link a v ≡ Link b v' → a ≡ b
       same-chunk a b v v' e = cc
 
-  none-linked : ((i a : ℕ) (v : Value) → At xs i (Link a v) → ⊥) → (i : ℕ) (x : Step) → At xs i x → (link_in x ≡ []) × (linked_in x ≡ [])
+  none-linked : ((i a : ℕ) (v : Option ℕ) → At xs i (Link a v) → ⊥) → (i : ℕ) (x : Step) → At xs i x → (link_in x ≡ []) × (linked_in x ≡ [])
   unfolding link_in linked_in
   none-linked h i (Data u j w) s = (refl, refl)
   none-linked h i (Map k j v) s = (refl, refl)
   none-linked h i (Link a v) s = absurd (h i a v s)
   none-linked h i Fence s = (refl, refl)
 
-  no-links : (c w : ℕ) → ((i a : ℕ) (v : Value) → At xs i (Link a v) → ⊥) → links_are 0 c w xs ≡ true
+  no-links : (c w : ℕ) → ((i a : ℕ) (v : Option ℕ) → At xs i (Link a v) → ⊥) → links_are 0 c w xs ≡ true
   unfolding links_are all
   no-links c w h =
       rw (collect-none link_in xs (λ i x s. (none-linked h i x s).0), collect-none linked_in xs (λ i x s. (none-linked h i x s).1)) refl
 
   -- a write's map has words, so that the plan is on a map
   module _ (g : Shape) (some : 1 ≤ map_words g) (free : ℕ → Bool) where
-    has-map : (c size : ℕ) → rule3 g free (Write c size) xs ≡ true → (i : ℕ) × (j : ℕ) × (v : Value) × At xs i (Map (plan_map xs) j v)
+    has-map : (c size : ℕ) → rule3 g free (Write c size) xs ≡ true → (i : ℕ) × (j : ℕ) × (v : Option ℕ) × At xs i (Map (plan_map xs) j v)
     unfolding rule3
     has-map c size h =
         let a = and_left (once_each (map_words g) (words xs)) (maps_fit (plan_map xs) free (word_for g size xs) xs) h in
         let r = word_at xs 0 (once-there (map_words g) (words xs) a 0 (omega arith)) in
         on-plan-map xs r.0 r.1 0 r.2 r.3
 
-    all-on-map : (c size : ℕ) → rule3 g free (Write c size) xs ≡ true → (i m j : ℕ) (v : Value) → At xs i (Map m j v) → plan_map xs ≡ m
+    all-on-map : (c size : ℕ) → rule3 g free (Write c size) xs ≡ true → (i m j : ℕ) (v : Option ℕ) → At xs i (Map m j v) → plan_map xs ≡ m
     unfolding rule3 map_fits
     all-on-map c size h i m j v s =
         let fits = maps_fit (plan_map xs) free (word_for g size xs) xs in

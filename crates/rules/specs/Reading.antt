@@ -1,21 +1,16 @@
 -- The five rules to read, in document 01's words: what a reader must believe of the checker. checker/proofs/Theorems.antt has that they are what is computed, both ways.
-use Rattle.std.specs.Prelude.{ℕ, zero, suc, ◌+◌, ◌*◌, ◌<◌, ◌≤◌, ◌≡◌, Bool, true, false, List, [], ◌∷◌, length}
+use Rattle.std.specs.Prelude.{ℕ, zero, suc, ◌+◌, ◌*◌, ◌<◌, ◌≤◌, ◌≡◌, Bool, true, false, List, [], ◌∷◌, length, Option, Some, None, Result, Ok, Err, ⊤}
 use Rattle.layout.specs.declared.Shape.{Shape}
 use Rattle.layout.specs.declared.Refusal.{Refusal}
 use Rattle.layout.specs.declared.Refusal.TheVariants.{Short, Foreign, Geometry, BadLink, BadMap, Shared, Range, Size, NoRoom, Small, BadPlan, BadAlarm}
 use Rattle.layout.specs.Layout.{X, unit_bytes, units_for, head, map_words, shape_of}
 use Rattle.image.specs.Soundness.{Sound}
 use Rattle.image.specs.Rows.{Row}
-use Rattle.steps.specs.declared.Value.{Value}
-use Rattle.steps.specs.declared.Value.TheVariants.{Number, Absent}
 use Rattle.steps.specs.declared.Step.{Step}
 use Rattle.steps.specs.declared.Step.TheVariants.{Data, Map, Link, Fence}
-use Rattle.steps.specs.declared.Decoded.TheVariants.{Whole}
 use Rattle.steps.specs.declared.Request.{Request}
 use Rattle.steps.specs.declared.Request.TheVariants.{Write, Discard}
 use Rattle.steps.specs.Steps.{step_bytes, whole_steps, decode_at, steps_of, chunk_of, word_of}
-use Rattle.rules.specs.declared.Checked.{Checked}
-use Rattle.rules.specs.declared.Checked.TheVariants.{Accepted, Refused}
 use Rattle.rules.specs.Rules.{max_steps, Known, known_of}
 
 -- x stands at place i of a list, counted from 0
@@ -28,14 +23,14 @@ module _ {A : Type 0} where
 -- ---- 1
 
 -- "a MAP value below N or X, a LINK value below M or X"
-abbrev pub ValueBelow : ℕ → Value → Type 0
-ValueBelow n (Number w) = w < n
-ValueBelow n Absent = Unit {0}
+abbrev pub ValueBelow : ℕ → Option ℕ → Type 0
+ValueBelow n (Some w) = w < n
+ValueBelow n None = Unit {0}
 
 -- "word 0 holds 1 to P·4,096 (rule 1)"
-abbrev pub SizeValue : Shape → Value → Type 0
-SizeValue g (Number w) = (1 ≤ w) × (w ≤ g.p * unit_bytes)
-SizeValue g Absent = ⊥
+abbrev pub SizeValue : Shape → Option ℕ → Type 0
+SizeValue g (Some w) = (1 ≤ w) × (w ≤ g.p * unit_bytes)
+SizeValue g None = ⊥
 
 -- "units below N, pieces and words below P, maps below M, chunks below C"; "unused fields 0"; in edition 2 "MAP words run from 0 to P"
 abbrev pub Bounded : Shape → Step → Type 0
@@ -49,7 +44,7 @@ pub record Rule1 (g : Shape) (plan : List ℕ) : Type 0 where
   pub whole : length plan ≡ step_bytes * whole_steps plan
   pub few : whole_steps plan ≤ max_steps
   -- "of the four kinds", each within its bounds
-  pub steps : (i : ℕ) → i < whole_steps plan → (x : Step) × (decode_at plan i ≡ Whole x) × Bounded g x
+  pub steps : (i : ℕ) → i < whole_steps plan → (x : Step) × (decode_at plan i ≡ Some x) × Bounded g x
 
 -- ---- 2
 
@@ -73,38 +68,38 @@ Rule2 free (Discard c) xs = (i u j w : ℕ) → At xs i (Data u j w) → ⊥
 -- a plan for a map of n words, of which `heads` stand before the units, for a write of `size` bytes in k pieces
 pub record MapWords (n heads size k : ℕ) (free : ℕ → Bool) (xs : List Step) : Type 0 where
   -- "all MAP steps on one free map"
-  pub one_map : (i i' m m' j j' : ℕ) (v v' : Value) → At xs i (Map m j v) → At xs i' (Map m' j' v') → m ≡ m'
-  pub free-map : (i m j : ℕ) (v : Value) → At xs i (Map m j v) → free m ≡ true
+  pub one_map : (i i' m m' j j' : ℕ) (v v' : Option ℕ) → At xs i (Map m j v) → At xs i' (Map m' j' v') → m ≡ m'
+  pub free-map : (i m j : ℕ) (v : Option ℕ) → At xs i (Map m j v) → free m ≡ true
   -- "each word 0 to P-1 once", in edition 2 0 to P, and no other
-  pub each : (j : ℕ) → j < n → (i : ℕ) × (m : ℕ) × (v : Value) × At xs i (Map m j v)
-  pub once : (i i' m m' j : ℕ) (v v' : Value) → At xs i (Map m j v) → At xs i' (Map m' j v') → i ≡ i'
-  pub no_other : (i m j : ℕ) (v : Value) → At xs i (Map m j v) → j < n
+  pub each : (j : ℕ) → j < n → (i : ℕ) × (m : ℕ) × (v : Option ℕ) × At xs i (Map m j v)
+  pub once : (i i' m m' j : ℕ) (v v' : Option ℕ) → At xs i (Map m j v) → At xs i' (Map m' j v') → i ≡ i'
+  pub no_other : (i m j : ℕ) (v : Option ℕ) → At xs i (Map m j v) → j < n
   -- in edition 2 word 0 holds "the request's size (rule 3)"
-  pub sizes : (i m j : ℕ) (v : Value) → j < heads → At xs i (Map m j v) → word_of v ≡ size
+  pub sizes : (i m j : ℕ) (v : Option ℕ) → j < heads → At xs i (Map m j v) → word_of v ≡ size
   -- "word j is piece j's unit for j below k, else X"; in edition 2 "word j+1"
-  pub units : (i i' m j u w : ℕ) (v : Value) → j < k → At xs i (Map m (heads + j) v) → At xs i' (Data u j w) → word_of v ≡ u
-  pub rest : (i m j : ℕ) (v : Value) → k ≤ j → At xs i (Map m (heads + j) v) → word_of v ≡ X
+  pub units : (i i' m j u w : ℕ) (v : Option ℕ) → j < k → At xs i (Map m (heads + j) v) → At xs i' (Data u j w) → word_of v ≡ u
+  pub rest : (i m j : ℕ) (v : Option ℕ) → k ≤ j → At xs i (Map m (heads + j) v) → word_of v ≡ X
 
 abbrev pub Rule3 : Shape → (ℕ → Bool) → Request → List Step → Type 0
 Rule3 g free (Write c size) xs = MapWords (map_words g) (head g) size (units_for size) free xs
 -- "Discard: no MAP."
-Rule3 g free (Discard c) xs = (i m j : ℕ) (v : Value) → At xs i (Map m j v) → ⊥
+Rule3 g free (Discard c) xs = (i m j : ℕ) (v : Option ℕ) → At xs i (Map m j v) → ⊥
 
 -- ---- 4
 
 -- "one LINK, this chunk"
 pub record OneLink (c : ℕ) (xs : List Step) : Type 0 where
-  pub there : (i : ℕ) × (v : Value) × At xs i (Link c v)
-  pub alone : (i i' a a' : ℕ) (v v' : Value) → At xs i (Link a v) → At xs i' (Link a' v') → i ≡ i'
+  pub there : (i : ℕ) × (v : Option ℕ) × At xs i (Link c v)
+  pub alone : (i i' a a' : ℕ) (v v' : Option ℕ) → At xs i (Link a v) → At xs i' (Link a' v') → i ≡ i'
 
 abbrev pub Rule4 : Request → Bool → List Step → Type 0
 -- "one LINK, this chunk, that map": the map that the MAP steps are on
 Rule4 (Write c size) chunk_mapped xs =
-    OneLink c xs × ((i i' a m j : ℕ) (v v' : Value) → At xs i (Link a v) → At xs i' (Map m j v') → word_of v ≡ m)
+    OneLink c xs × ((i i' a m j : ℕ) (v v' : Option ℕ) → At xs i (Link a v) → At xs i' (Map m j v') → word_of v ≡ m)
 -- "Discard of a mapped chunk: one LINK, this chunk, X."
-Rule4 (Discard c) true xs = OneLink c xs × ((i a : ℕ) (v : Value) → At xs i (Link a v) → word_of v ≡ X)
+Rule4 (Discard c) true xs = OneLink c xs × ((i a : ℕ) (v : Option ℕ) → At xs i (Link a v) → word_of v ≡ X)
 -- "Of an unmapped one: no LINK."
-Rule4 (Discard c) false xs = (i a : ℕ) (v : Value) → At xs i (Link a v) → ⊥
+Rule4 (Discard c) false xs = (i a : ℕ) (v : Option ℕ) → At xs i (Link a v) → ⊥
 
 -- ---- 5
 
@@ -121,10 +116,10 @@ LastFence xs = (n : ℕ) × (length xs ≡ suc n) × At xs n Fence
 
 pub record Fenced (xs : List Step) : Type 0 where
   -- "every DATA and MAP precedes LINK"
-  pub before : (i l c : ℕ) (v : Value) (x : Step) → At xs l (Link c v) → At xs i x → Stored x → i < l
+  pub before : (i l c : ℕ) (v : Option ℕ) (x : Step) → At xs l (Link c v) → At xs i x → Stored x → i < l
   -- "with a FENCE after the last of them and before LINK"
   pub fence :
-      (l c : ℕ) (v : Value) → At xs l (Link c v) → (f : ℕ) × (f < l) × At xs f Fence × ((i : ℕ) (x : Step) → At xs i x → Stored x → i < f)
+      (l c : ℕ) (v : Option ℕ) → At xs l (Link c v) → (f : ℕ) × (f < l) × At xs f Fence × ((i : ℕ) (x : Step) → At xs i x → Stored x → i < f)
   -- "the last step is FENCE"
   pub last : LastFence xs
 
@@ -183,6 +178,6 @@ Refuses s r plan (Small n) = ⊥
 Refuses s r plan BadAlarm = ⊥
 
 -- when it gives an answer: it accepts a plan where the image is sound, the request good and the five rules kept
-abbrev pub Answers : List ℕ → Request → List ℕ → Checked → Type 0
-Answers s r plan Accepted = Sound (shape_of s) s × GoodRequest (shape_of s) r × KeepsAll (known_of s r) r plan
-Answers s r plan (Refused x) = Refuses s r plan x
+abbrev pub Answers : List ℕ → Request → List ℕ → Result ⊤ Refusal → Type 0
+Answers s r plan (Ok tt) = Sound (shape_of s) s × GoodRequest (shape_of s) r × KeepsAll (known_of s r) r plan
+Answers s r plan (Err x) = Refuses s r plan x

@@ -1,5 +1,5 @@
 -- The checker's five rules, over what it knows of the image, and its answer: what is computed. Reading.antt has the rules to read.
-use Rattle.std.specs.Prelude.{ℕ, zero, suc, ◌%◌, Bool, true, false, ◌&&◌, cond, List, [], ◌∷◌, ◌++◌, length, get_or, eqb, ltb, leb}
+use Rattle.std.specs.Prelude.{ℕ, zero, suc, ◌%◌, Bool, true, false, ◌&&◌, cond, List, [], ◌∷◌, ◌++◌, length, get_or, eqb, ltb, leb, Option, Some, None, Result, Ok, Err, ⊤}
 use Rattle.layout.specs.declared.Shape.{Shape}
 use Rattle.layout.specs.declared.Refusal.TheVariants.{Range, Size, BadPlan}
 use Rattle.image.specs.Answers.{if_sound}
@@ -8,17 +8,12 @@ use Rattle.layout.specs.Layout.{X, is_size, head, map_words, after_head, shape_o
 use Rattle.image.specs.Soundness.{mapped}
 use Rattle.image.specs.Verdicts.{verdict}
 use Rattle.image.specs.Free.{free_units, free_map}
-use Rattle.steps.specs.declared.Value.{Value}
-use Rattle.steps.specs.declared.Value.TheVariants.{Number, Absent}
 use Rattle.steps.specs.declared.Step.{Step}
 use Rattle.steps.specs.declared.Step.TheVariants.{Data, Map, Link, Fence}
-use Rattle.steps.specs.declared.Decoded.{Decoded}
-use Rattle.steps.specs.declared.Decoded.TheVariants.{Whole, Malformed}
 use Rattle.steps.specs.declared.Request.{Request}
 use Rattle.steps.specs.declared.Request.TheVariants.{Write, Discard}
-use Rattle.rules.specs.declared.Checked.{Checked}
-use Rattle.rules.specs.declared.Checked.TheVariants.{Accepted, Refused as Denied}
 use Rattle.steps.specs.Steps.{step_bytes, whole_steps, decode_at, steps_of, chunk_of, size_of, need_of, good_chunk, good_size, word_of}
+use Rattle.layout.specs.declared.Refusal.{Refusal}
 
 -- "at most 64"
 abbrev pub max_steps : ℕ
@@ -139,16 +134,16 @@ after_link (Fence ∷ xs) = after_link xs
 -- ---- rule 1: "Whole steps, at most 64, of the four kinds; units below N, pieces and words below P, maps below M, chunks below C;
 -- a MAP value below N or X, a LINK value below M or X; unused fields 0." In edition 2 "MAP words run from 0 to P: word 0 holds 1 to P·4,096 (rule 1)".
 
-abbrev pub value_below : ℕ → Value → Bool
-value_below n (Number w) = ltb w n
-value_below n Absent = true
+abbrev pub value_below : ℕ → Option ℕ → Bool
+value_below n (Some w) = ltb w n
+value_below n None = true
 
-abbrev pub size_value : Shape → Value → Bool
-size_value g (Number w) = is_size g w
-size_value g Absent = false
+abbrev pub size_value : Shape → Option ℕ → Bool
+size_value g (Some w) = is_size g w
+size_value g None = false
 
 -- a MAP value; in edition 2 "word 0 holds 1 to P·4,096 (rule 1)"
-unfoldable pub word_in_range : Shape → ℕ → Value → Bool
+unfoldable pub word_in_range : Shape → ℕ → Option ℕ → Bool
 word_in_range g j v = cond (ltb j (head g)) (size_value g v) (value_below g.n v)
 
 abbrev pub in_range : Shape → Step → Bool
@@ -158,9 +153,9 @@ in_range g (Link i v) = ltb i g.c && value_below g.m v
 in_range g Fence = true
 
 -- bytes that say no step break the rule
-abbrev pub whole_in_range : Shape → Decoded → Bool
-whole_in_range g (Whole x) = in_range g x
-whole_in_range g Malformed = false
+abbrev pub whole_in_range : Shape → Option Step → Bool
+whole_in_range g (Some x) = in_range g x
+whole_in_range g None = false
 
 unfoldable pub rule1 : Shape → List ℕ → Bool
 rule1 g plan =
@@ -260,16 +255,16 @@ broken_rule kn r plan =
 -- ---- the checker's answer
 
 -- 11 BAD PLAN, "a plan rule broken", with the "lowest rule broken"
-abbrev pub broken : ℕ → Checked
-broken zero = Accepted
-broken (suc r) = Denied (BadPlan (suc r))
+abbrev pub broken : ℕ → Result ⊤ Refusal
+broken zero = Ok tt
+broken (suc r) = Err (BadPlan (suc r))
 
 -- of what is known, of an image or from any sets: 7 "chunk not below C", 8 "compressed size 0 or above P·4,096", then 11. "Refusal 9 isn't given here."
-unfoldable pub judged : Known → Request → List ℕ → Checked
+unfoldable pub judged : Known → Request → List ℕ → Result ⊤ Refusal
 judged kn r plan =
     let rules = broken (broken_rule kn r plan) in
-    cond (good_chunk kn.shape r) (cond (good_size kn.shape r) rules (Denied Size)) (Denied Range)
+    cond (good_chunk kn.shape r) (cond (good_size kn.shape r) rules (Err Size)) (Err Range)
 
 -- for any image: "Every entry point first applies 1 to 6 to its image"
-unfoldable pub checked : List ℕ → Request → List ℕ → Checked
-checked s r plan = if_sound (verdict s) Denied (judged (known_of s r) r plan)
+unfoldable pub checked : List ℕ → Request → List ℕ → Result ⊤ Refusal
+checked s r plan = if_sound (verdict s) Err (judged (known_of s r) r plan)

@@ -1,14 +1,5 @@
 // Document 01's five rules of a plan, and what the checker answers.
 #![tactic(auto)]
 
-use layout::Refusal;
-
-// What the checker answers.
-#[derive(Clone, Copy)]
-pub enum Checked {
-    Accepted,
-    Refused(Refusal),
-}
-
 // The most steps that a plan may have.
 pub const MAX_STEPS: usize = 64;

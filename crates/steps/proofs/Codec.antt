@@ -1,4 +1,5 @@
 -- What is written is read back: a step's bytes, and a plan's.
+use Rattle.std.specs.Prelude.{Option, Some, None}
 use Prim.Native.Nat.{ℕ, zero, suc, ◌+◌, ◌*◌, ◌/◌, ◌<◌}
 use native.Mathlib.Omega.{arith}
 use mathlib.Core.Path.{◌≡◌, refl, ap, ap₂, ◌∙◌}
@@ -11,12 +12,8 @@ use Rattle.search.proofs.Bools.{cond-false}
 use Rattle.words.specs.Words.{Bytes, digits, u32_at}
 use Rattle.words.proofs.Laws.{number-skip, length_digits}
 use Rattle.words.proofs.Numbers.{number-here, number-next}
-use Rattle.steps.specs.declared.Value.{Value}
-use Rattle.steps.specs.declared.Value.TheVariants.{Number, Absent}
 use Rattle.steps.specs.declared.Step.{Step}
 use Rattle.steps.specs.declared.Step.TheVariants.{Data, Map, Link, Fence}
-use Rattle.steps.specs.declared.Decoded.{Decoded}
-use Rattle.steps.specs.declared.Decoded.TheVariants.{Whole}
 use Rattle.steps.specs.Steps.{absent_field, value_of, field_of, step_bytes, field_bytes, encode, decode_fields, decode_at, encode_all, whole_steps, gather, steps_of}
 use Rattle.steps.specs.Encodable.{Each, field_limit, ValueFits, Fits}
 
@@ -26,13 +23,13 @@ each_map P Q (x ∷ xs) f a = (f x a.0, each_map P Q xs f a.1)
 
 -- ---- one step
 
-value-field : (v : Value) → ValueFits v → value_of (field_of v) ≡ v
-value-field (Number w) h = cond-false (eqb w absent_field) Absent (Number w) (ne_eqb w absent_field (λ e. omega arith))
-value-field Absent h = refl
+value-field : (v : Option ℕ) → ValueFits v → value_of (field_of v) ≡ v
+value-field (Some w) h = cond-false (eqb w absent_field) None (Some w) (ne_eqb w absent_field (λ e. omega arith))
+value-field None h = refl
 
-field_fits : (v : Value) → ValueFits v → field_of v < field_limit
-field_fits (Number w) h = omega arith
-field_fits Absent h = omega arith
+field_fits : (v : Option ℕ) → ValueFits v → field_of v < field_limit
+field_fits (Some w) h = omega arith
+field_fits None h = omega arith
 
 pub length_fields : (k a b d : ℕ) → length (field_bytes k a b d) ≡ step_bytes
 length_fields k a b d = simp (length-append, length_digits)
@@ -71,13 +68,13 @@ length-encode (Link i v) = length_fields 3 i 0 (field_of v)
 length-encode Fence = length_fields 4 0 0 0
 
 -- the first step of a plan
-pub decode-here : (x : Step) (ys : List ℕ) → Fits x → decode_at (encode x ++ ys) 0 ≡ Whole x
+pub decode-here : (x : Step) (ys : List ℕ) → Fits x → decode_at (encode x ++ ys) 0 ≡ Some x
 unfolding encode decode_fields
 decode-here (Data u j wr) ys f = decode-fields 1 u j wr ys (omega arith) f.0 f.1 f.2
 decode-here (Map k j v) ys f =
-    decode-fields 2 k j (field_of v) ys (omega arith) f.0 f.1 (field_fits v f.2) ∙ ap (λ (w : Value). Whole (Map k j w)) (value-field v f.2)
+    decode-fields 2 k j (field_of v) ys (omega arith) f.0 f.1 (field_fits v f.2) ∙ ap (λ (w : Option ℕ). Some (Map k j w)) (value-field v f.2)
 decode-here (Link i v) ys f =
-    decode-fields 3 i 0 (field_of v) ys (omega arith) f.0 (omega arith) (field_fits v f.1) ∙ ap (λ (w : Value). Whole (Link i w)) (value-field v f.1)
+    decode-fields 3 i 0 (field_of v) ys (omega arith) f.0 (omega arith) (field_fits v f.1) ∙ ap (λ (w : Option ℕ). Some (Link i w)) (value-field v f.1)
 decode-here Fence ys f = decode-fields 4 0 0 0 ys (omega arith) (omega arith) (omega arith) (omega arith)
 
 -- the later ones
@@ -126,7 +123,7 @@ pub whole-encoded : (xs : List Step) → whole_steps (encode_all xs) ≡ length 
 whole-encoded xs = let a = length-encoded xs in omega arith
 
 -- no step of it is malformed
-pub formed-encoded : (xs : List Step) (i : ℕ) → Each Fits xs → i < length xs → (x : Step) × (decode_at (encode_all xs) i ≡ Whole x)
+pub formed-encoded : (xs : List Step) (i : ℕ) → Each Fits xs → i < length xs → (x : Step) × (decode_at (encode_all xs) i ≡ Some x)
 unfolding encode_all
 formed-encoded [] i f h = absurd (omega arith)
 formed-encoded (x ∷ xs) zero f h = (x, decode-here x (encode_all xs) f.0)
@@ -137,16 +134,16 @@ formed-encoded (x ∷ xs) (suc i) f h =
 map-later : (x : Step) (ys : List ℕ) (i n : ℕ) → map (decode_at (encode x ++ ys)) (from (suc i) n) ≡ map (decode_at ys) (from i n)
 unfolding from
 map-later x ys i zero = refl
-map-later x ys i (suc n) = ap₂ (λ (d : Decoded) (ds : List Decoded). d ∷ ds) (decode-later x ys i) (map-later x ys (suc i) n)
+map-later x ys i (suc n) = ap₂ (λ (d : Option Step) (ds : List (Option Step)). d ∷ ds) (decode-later x ys i) (map-later x ys (suc i) n)
 
-pub decoded : (xs : List Step) → Each Fits xs → map (decode_at (encode_all xs)) (below (length xs)) ≡ map Whole xs
+pub decoded : (xs : List Step) → Each Fits xs → map (decode_at (encode_all xs)) (below (length xs)) ≡ map Some xs
 unfolding encode_all from
 decoded [] h = refl
 decoded (x ∷ xs) h =
-    ap₂ (λ (d : Decoded) (ds : List Decoded). d ∷ ds) (decode-here x (encode_all xs) h.0)
+    ap₂ (λ (d : Option Step) (ds : List (Option Step)). d ∷ ds) (decode-here x (encode_all xs) h.0)
     (map-later x (encode_all xs) 0 (length xs) ∙ decoded xs h.1)
 
-gather-whole : (xs : List Step) → gather (map Whole xs) ≡ xs
+gather-whole : (xs : List Step) → gather (map Some xs) ≡ xs
 unfolding gather
 gather-whole [] = refl
 gather-whole (x ∷ xs) = ap (λ (l : List Step). x ∷ l) (gather-whole xs)

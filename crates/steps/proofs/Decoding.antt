@@ -1,4 +1,5 @@
 -- What is read is written back: bytes that say a step are that step's bytes, and it fits its fields.
+use Rattle.std.specs.Prelude.{Option, Some, None}
 use Prim.Native.Nat.{ℕ, zero, suc, ◌+◌, ◌*◌, ◌^◌, ◌<◌, ◌≤◌}
 use native.Mathlib.Nat.{pow-suc}
 use native.Mathlib.Omega.{arith}
@@ -10,11 +11,8 @@ use lib.Dec.{eqb}
 use borrow.Author.Tests.{eqb-true, eqb-false}
 use Rattle.words.specs.Words.{Bytes, number, digits, u32_at}
 use Rattle.words.proofs.Numbers.{drop-number}
-use Rattle.steps.specs.declared.Value.TheVariants.{Number, Absent}
 use Rattle.steps.specs.declared.Step.{Step}
 use Rattle.steps.specs.declared.Step.TheVariants.{Data, Map, Link, Fence}
-use Rattle.steps.specs.declared.Decoded.{Decoded}
-use Rattle.steps.specs.declared.Decoded.TheVariants.{Whole, Malformed}
 use Rattle.steps.specs.Steps.{absent_field, value_of, field_of, step_bytes, field_bytes, encode, decode_fields, decode_at, encode_all, whole_steps, steps_append}
 use Rattle.steps.proofs.Rest.{rest, rest-next, rest_end}
 use Rattle.steps.specs.Encodable.{Each, field_limit, ValueFits, Fits, WellFormed}
@@ -28,14 +26,14 @@ number-below (suc w) s i b h = rw (pow-suc 256 w) (omega (arith, b i (omega arit
 field-value : (w : ℕ) → field_of (value_of w) ≡ w
 field-value w = go (eqb w absent_field) refl
   where
-    go : (t : Bool) → eqb w absent_field ≡ t → field_of (cond t Absent (Number w)) ≡ w
+    go : (t : Bool) → eqb w absent_field ≡ t → field_of (cond t None (Some w)) ≡ w
     go true e = sym (eqb-true w absent_field e)
     go false e = refl
 
 value-fits : (w : ℕ) → w < field_limit → ValueFits (value_of w)
 value-fits w h = go (eqb w absent_field) refl
   where
-    go : (t : Bool) → eqb w absent_field ≡ t → ValueFits (cond t Absent (Number w))
+    go : (t : Bool) → eqb w absent_field ≡ t → ValueFits (cond t None (Some w))
     go true e = tt
     go false e = let n = eqb-false w absent_field e in omega arith
 
@@ -47,35 +45,35 @@ record Has (k a b d : ℕ) (x : Step) : Type 0 where
   fits : a < field_limit → b < field_limit → d < field_limit → Fits x
 
 -- so has the step that they say, if any
-unfoldable Says : ℕ → ℕ → ℕ → ℕ → Decoded → Type 0
-Says k a b d (Whole x) = Has k a b d x
-Says k a b d Malformed = Unit {0}
+unfoldable Says : ℕ → ℕ → ℕ → ℕ → Option Step → Type 0
+Says k a b d (Some x) = Has k a b d x
+Says k a b d None = Unit {0}
 
 module _ (k a b d : ℕ) where
-  says-cond : (t : Bool) (x y : Decoded) → (t ≡ true → Says k a b d x) → (t ≡ false → Says k a b d y) → Says k a b d (cond t x y)
+  says-cond : (t : Bool) (x y : Option Step) → (t ≡ true → Says k a b d x) → (t ≡ false → Says k a b d y) → Says k a b d (cond t x y)
   says-cond true x y f g = f refl
   says-cond false x y f g = g refl
 
-  says_none : Says k a b d Malformed
+  says_none : Says k a b d None
   unfolding Says
   says_none = tt
 
-  says-data : k ≡ 1 → Says k a b d (Whole (Data a b d))
+  says-data : k ≡ 1 → Says k a b d (Some (Data a b d))
   unfolding Says encode
   says-data e = record { bytes = ap (λ (n : ℕ). field_bytes n a b d) (sym e); fits = λ ha hb hd. (ha, hb, hd) }
 
-  says_map : k ≡ 2 → Says k a b d (Whole (Map a b (value_of d)))
+  says_map : k ≡ 2 → Says k a b d (Some (Map a b (value_of d)))
   unfolding Says encode
   says_map e = record {
     bytes = λ t. field_bytes (sym e t) a b (field-value d t);
     fits = λ ha hb hd. (ha, hb, value-fits d hd);
   }
 
-  says-link : k ≡ 3 → b ≡ 0 → Says k a b d (Whole (Link a (value_of d)))
+  says-link : k ≡ 3 → b ≡ 0 → Says k a b d (Some (Link a (value_of d)))
   unfolding Says encode
   says-link e eb = record { bytes = λ t. field_bytes (sym e t) a (sym eb t) (field-value d t); fits = λ ha hb hd. (ha, value-fits d hd) }
 
-  says-fence : k ≡ 4 → a ≡ 0 → b ≡ 0 → d ≡ 0 → Says k a b d (Whole Fence)
+  says-fence : k ≡ 4 → a ≡ 0 → b ≡ 0 → d ≡ 0 → Says k a b d (Some Fence)
   unfolding Says encode
   says-fence e ea eb ed = record { bytes = λ t. field_bytes (sym e t) (sym ea t) (sym eb t) (sym ed t); fits = λ ha hb hd. tt }
 
@@ -91,7 +89,7 @@ module _ (k a b d : ℕ) where
       says-cond (eqb d 0) _ _ (λ ed. says-fence (eqb-true k 4 e) (eqb-true a 0 ea) (eqb-true b 0 eb) (eqb-true d 0 ed)) (λ _. says_none))
       (λ _. says_none)) (λ _. says_none)) (λ _. says_none))))
 
-  has : (x : Step) → decode_fields k a b d ≡ Whole x → Has k a b d x
+  has : (x : Step) → decode_fields k a b d ≡ Some x → Has k a b d x
   unfolding Says
   has x e = subst (Says k a b d) e says-fields
 
@@ -115,7 +113,7 @@ drop-fields s at b h =
     ∙ ap (field (at + 8)) (drop-field s (at + 12) (at + 16) b (omega arith) (omega arith))))
     ∙ regroup (digits 4 (u32_at s at)) (digits 4 (u32_at s (at + 4))) (digits 4 (u32_at s (at + 8))) (digits 4 (u32_at s (at + 12))) (drop (at + 16) s)
 
-module _ (plan : List ℕ) (b : Bytes plan) (i : ℕ) (h : i < whole_steps plan) (x : Step) (e : decode_at plan i ≡ Whole x) where
+module _ (plan : List ℕ) (b : Bytes plan) (i : ℕ) (h : i < whole_steps plan) (x : Step) (e : decode_at plan i ≡ Some x) where
   fields-have : Has (u32_at plan (step_bytes * i)) (u32_at plan (step_bytes * i + 4)) (u32_at plan (step_bytes * i + 8)) (u32_at plan (step_bytes * i + 12)) x
   unfolding decode_at
   fields-have = has _ _ _ _ x e
@@ -138,15 +136,15 @@ module _ (plan : List ℕ) (b : Bytes plan) (i : ℕ) (h : i < whole_steps plan)
 
 module _ (plan : List ℕ) (w : WellFormed plan) where
   -- a step and what is left of the plan from it on
-  one : (i : ℕ) → i < whole_steps plan → (d : Decoded) → decode_at plan i ≡ d
+  one : (i : ℕ) → i < whole_steps plan → (d : Option Step) → decode_at plan i ≡ d
       → Each Fits (rest plan (i + 1)) × (encode_all (rest plan (i + 1)) ≡ drop (step_bytes * (i + 1)) plan)
       → Each Fits (steps_append d (rest plan (i + 1))) × (encode_all (steps_append d (rest plan (i + 1))) ≡ drop (step_bytes * i) plan)
   unfolding encode_all
-  one i h (Whole x) e r = (
+  one i h (Some x) e r = (
     (decoded-fits plan w.bytes i h x e, r.0),
     ap (λ (l : List ℕ). encode x ++ l) r.1 ∙ sym (decoded-bytes plan w.bytes i h x e),
   )
-  one i h Malformed e r = absurd (w.formed i h e)
+  one i h None e r = absurd (w.formed i h e)
 
   -- the last n steps
   pub encode-rest : (i n : ℕ) → i + n ≡ whole_steps plan → Each Fits (rest plan i) × (encode_all (rest plan i) ≡ drop (step_bytes * i) plan)

@@ -1,10 +1,7 @@
 -- What the theorems on bytes and steps assume: which steps have bytes of their own, and which bytes are those of steps.
-use Rattle.std.specs.Prelude.{ℕ, ◌%◌, ◌<◌, ◌≡◌, List, [], ◌∷◌, length, get_or}
-use Rattle.steps.specs.declared.Value.{Value}
-use Rattle.steps.specs.declared.Value.TheVariants.{Number, Absent}
+use Rattle.std.specs.Prelude.{ℕ, ◌%◌, ◌<◌, ◌≡◌, List, [], ◌∷◌, length, get_or, Option, Some, None}
 use Rattle.steps.specs.declared.Step.{Step}
 use Rattle.steps.specs.declared.Step.TheVariants.{Data, Map, Link, Fence}
-use Rattle.steps.specs.declared.Decoded.TheVariants.{Malformed}
 use Rattle.steps.specs.Steps.{step_bytes, absent_field, whole_steps, decode_at}
 
 -- every step of a list
@@ -17,9 +14,9 @@ abbrev pub field_limit : ℕ
 field_limit = 4294967296
 
 -- "X is written 4294967295": the number 4294967295 would be read as X
-abbrev pub ValueFits : Value → Type 0
-ValueFits (Number w) = w < absent_field
-ValueFits Absent = Unit {0}
+abbrev pub ValueFits : Option ℕ → Type 0
+ValueFits (Some w) = w < absent_field
+ValueFits None = Unit {0}
 
 -- the numbers of a step are u32, and its value is not taken for X
 abbrev pub Fits : Step → Type 0
@@ -32,4 +29,4 @@ Fits Fence = Unit {0}
 pub record WellFormed (plan : List ℕ) : Type 0 where
   pub bytes : (k : ℕ) → k < length plan → get_or plan k 0 < 256
   pub whole : length plan % step_bytes ≡ 0
-  pub formed : (i : ℕ) → i < whole_steps plan → decode_at plan i ≡ Malformed → ⊥
+  pub formed : (i : ℕ) → i < whole_steps plan → decode_at plan i ≡ None → ⊥

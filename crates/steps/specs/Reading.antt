@@ -1,15 +1,14 @@
 -- The plan reader: "A plan is read one step at a time from the lent bytes."
-use Rattle.std.specs.Prelude.{ℕ, zero, suc, ◌+◌, cond, List, [], ◌∷◌, ltb}
+use Rattle.std.specs.Prelude.{ℕ, zero, suc, ◌+◌, cond, List, [], ◌∷◌, ltb, Option, Some, None}
 use Rattle.std.specs.Borrow.{Bor}
-use Rattle.steps.specs.declared.Found.{Found}
-use Rattle.steps.specs.declared.Found.TheVariants.{Next, End}
 use Rattle.steps.specs.declared.Reader.{Reader}
 use Rattle.steps.specs.declared.Advanced.{Advanced}
 use Rattle.steps.specs.Steps.{whole_steps, decode_at}
+use Rattle.steps.specs.declared.Step.{Step}
 
 -- what a plan has at a position: what its next 16 bytes say, or the end of its whole steps
-unfoldable pub found_at : List ℕ → ℕ → Found
-found_at plan at = cond (ltb at (whole_steps plan)) (Next (decode_at plan at)) End
+unfoldable pub found_at : List ℕ → ℕ → Option (Option Step)
+found_at plan at = cond (ltb at (whole_steps plan)) (Some (decode_at plan at)) None
 
 -- the position past it; at the end a reader stays
 unfoldable pub next_at : List ℕ → ℕ → ℕ
@@ -31,6 +30,6 @@ advanced r = record {
 }
 
 -- what n readings find, one after the other
-unfoldable pub readings : Reader → ℕ → List Found
+unfoldable pub readings : Reader → ℕ → List (Option (Option Step))
 readings r zero = []
 readings r (suc n) = (advanced r).found ∷ readings (advanced r).rest n

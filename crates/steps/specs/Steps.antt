@@ -1,16 +1,12 @@
 -- Requests, values and steps, and the bytes of a plan both ways: document 01's section 'Plans' up to the planner.
-use Rattle.std.specs.Prelude.{ℕ, ◌+◌, ◌*◌, ◌/◌, Bool, true, cond, List, [], ◌∷◌, ◌++◌, map, length, eqb, ltb}
+use Rattle.std.specs.Prelude.{ℕ, ◌+◌, ◌*◌, ◌/◌, Bool, true, cond, List, [], ◌∷◌, ◌++◌, map, length, eqb, ltb, Option, Some, None}
 use Rattle.std.proofs.lemmas.List.Edits.{sets}
 use Rattle.search.specs.Search.{below}
 use Rattle.words.specs.Words.{u32_at, digits}
 use Rattle.layout.specs.declared.Shape.{Shape}
 use Rattle.layout.specs.Layout.{X, is_size, units_for}
-use Rattle.steps.specs.declared.Value.{Value}
-use Rattle.steps.specs.declared.Value.TheVariants.{Number, Absent}
 use Rattle.steps.specs.declared.Step.{Step}
 use Rattle.steps.specs.declared.Step.TheVariants.{Data, Map, Link, Fence}
-use Rattle.steps.specs.declared.Decoded.{Decoded}
-use Rattle.steps.specs.declared.Decoded.TheVariants.{Whole, Malformed}
 use Rattle.steps.specs.declared.Request.{Request}
 use Rattle.steps.specs.declared.Request.TheVariants.{Write, Discard}
 
@@ -44,18 +40,18 @@ abbrev pub absent_field : ℕ
 absent_field = 4294967295
 
 -- the value that a field of a step says
-abbrev pub value_of : ℕ → Value
-value_of w = cond (eqb w absent_field) Absent (Number w)
+abbrev pub value_of : ℕ → Option ℕ
+value_of w = cond (eqb w absent_field) None (Some w)
 
 -- the field that a value is written as
-abbrev pub field_of : Value → ℕ
-field_of (Number w) = w
-field_of Absent = absent_field
+abbrev pub field_of : Option ℕ → ℕ
+field_of (Some w) = w
+field_of None = absent_field
 
 -- the word of the image that it is stored as. The field of X is not that word: 4294967295 stored as it stands would be a bad link or unit.
-abbrev pub word_of : Value → ℕ
-word_of (Number w) = w
-word_of Absent = X
+abbrev pub word_of : Option ℕ → ℕ
+word_of (Some w) = w
+word_of None = X
 
 -- ---- a step: "A step is 16 bytes, four u32"
 
@@ -78,12 +74,12 @@ encode (Link i v) = field_bytes 3 i 0 (field_of v)
 encode Fence = field_bytes 4 0 0 0
 
 -- what four fields say: a step "of the four kinds", its unused fields 0 (DATA's last field is left to rule 1), or none
-unfoldable pub decode_fields : ℕ → ℕ → ℕ → ℕ → Decoded
+unfoldable pub decode_fields : ℕ → ℕ → ℕ → ℕ → Option Step
 decode_fields kind a b d =
-    let fence = cond (eqb a 0) (cond (eqb b 0) (cond (eqb d 0) (Whole Fence) Malformed) Malformed) Malformed in
-    let link = cond (eqb b 0) (Whole (Link a (value_of d))) Malformed in
-    cond (eqb kind 1) (Whole (Data a b d))
-    (cond (eqb kind 2) (Whole (Map a b (value_of d))) (cond (eqb kind 3) link (cond (eqb kind 4) fence Malformed)))
+    let fence = cond (eqb a 0) (cond (eqb b 0) (cond (eqb d 0) (Some Fence) None) None) None in
+    let link = cond (eqb b 0) (Some (Link a (value_of d))) None in
+    cond (eqb kind 1) (Some (Data a b d))
+    (cond (eqb kind 2) (Some (Map a b (value_of d))) (cond (eqb kind 3) link (cond (eqb kind 4) fence None)))
 
 -- ---- a plan: "A plan is read one step at a time from the lent bytes."
 
@@ -101,20 +97,20 @@ abbrev pub whole_steps : List ℕ → ℕ
 whole_steps plan = length plan / step_bytes
 
 -- what the bytes of step i say
-unfoldable pub decode_at : List ℕ → ℕ → Decoded
+unfoldable pub decode_at : List ℕ → ℕ → Option Step
 decode_at plan i =
     let at = step_bytes * i in decode_fields (u32_at plan at) (u32_at plan (at + 4)) (u32_at plan (at + 8)) (u32_at plan (at + 12))
 
 -- what the whole steps say, one after the other
-abbrev pub decoded_steps : List ℕ → List Decoded
+abbrev pub decoded_steps : List ℕ → List (Option Step)
 decoded_steps plan = map (decode_at plan) (below (whole_steps plan))
 
 -- the steps among them
-abbrev pub steps_append : Decoded → List Step → List Step
-steps_append (Whole x) xs = x ∷ xs
-steps_append Malformed xs = xs
+abbrev pub steps_append : Option Step → List Step → List Step
+steps_append (Some x) xs = x ∷ xs
+steps_append None xs = xs
 
-unfoldable pub gather : List Decoded → List Step
+unfoldable pub gather : List (Option Step) → List Step
 gather [] = []
 gather (d ∷ ds) = steps_append d (gather ds)
 

@@ -3,65 +3,32 @@ ghost use Rattle.std.specs.Prelude.{◌≡◌, ◌≤◌, ◌<◌, length};
 ghost use Rattle.steps.specs.Steps.{whole_steps, decode_fields, decode_at};
 
 use crate::values::value_of;
-use crate::{DATA, Decoded, FENCE, LINK, MAP, STEP_BYTES, Step};
-
-// The fields of a LINK step.
-fn decode_link(a: u32, b: u32, d: u32) -> Decoded
-    ensures { result ≡ decode_fields 3 a b d }
-{
-    if b != 0 {
-        return Decoded::Malformed;
-    }
-    let value = value_of(d);
-    Decoded::Whole(Step::Link { chunk: a, value })
-}
-
-// The fields of a FENCE step.
-fn decode_fence(a: u32, b: u32, d: u32) -> Decoded
-    ensures { result ≡ decode_fields 4 a b d }
-{
-    if a != 0 {
-        return Decoded::Malformed;
-    }
-    if b != 0 {
-        return Decoded::Malformed;
-    }
-    if d != 0 {
-        return Decoded::Malformed;
-    }
-    Decoded::Whole(Step::Fence)
-}
+use crate::{DATA, FENCE, LINK, MAP, STEP_BYTES, Step};
 
 // The four fields of a step.
-fn decode_fields(kind: u32, a: u32, b: u32, d: u32) -> Decoded
+#[tactic(auto, unfolding(crate::specs::Steps::decode_fields))]
+fn decode_fields(kind: u32, a: u32, b: u32, d: u32) -> Option<Step>
     ensures { result ≡ decode_fields kind a b d }
 {
-    if kind == DATA {
-        return Decoded::Whole(Step::Data {
-            unit: a,
-            piece: b,
-            write: d,
-        });
+    match (kind, a, b, d) {
+        (DATA, unit, piece, write) => Some(Step::Data { unit, piece, write }),
+        (MAP, map, word, d) => Some(Step::Map {
+            map,
+            word,
+            value: value_of(d),
+        }),
+        (LINK, chunk, 0, d) => Some(Step::Link {
+            chunk,
+            value: value_of(d),
+        }),
+        (FENCE, 0, 0, 0) => Some(Step::Fence),
+        _ => None,
     }
-    if kind == MAP {
-        let value = value_of(d);
-        return Decoded::Whole(Step::Map {
-            map: a,
-            word: b,
-            value,
-        });
-    }
-    if kind == LINK {
-        return decode_link(a, b, d);
-    }
-    if kind == FENCE {
-        return decode_fence(a, b, d);
-    }
-    Decoded::Malformed
 }
 
 // Step i of a plan.
-pub(crate) fn decode_at(plan: &[u8], i: usize) -> Decoded
+#[tactic(auto, unfolding(crate::specs::Steps::decode_at))]
+pub(crate) fn decode_at(plan: &[u8], i: usize) -> Option<Step>
     requires { i < whole_steps plan.now }
     ensures { result ≡ decode_at plan.now i }
 {

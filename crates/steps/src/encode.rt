@@ -25,14 +25,8 @@ pub fn put_step(out: &mut [u8], i: usize, step: Step)
     let at = STEP_BYTES * i;
     match step {
         Step::Data { unit, piece, write } => put_fields(out, at, DATA, unit, piece, write),
-        Step::Map { map, word, value } => {
-            let v = field_of(value);
-            put_fields(out, at, MAP, map, word, v);
-        }
-        Step::Link { chunk, value } => {
-            let v = field_of(value);
-            put_fields(out, at, LINK, chunk, 0, v);
-        }
+        Step::Map { map, word, value } => put_fields(out, at, MAP, map, word, field_of(value)),
+        Step::Link { chunk, value } => put_fields(out, at, LINK, chunk, 0, field_of(value)),
         Step::Fence => put_fields(out, at, FENCE, 0, 0, 0),
     }
 }

@@ -21,27 +21,24 @@ pub const FENCE: u32 = 4;
 // X in a field of a step. A word of the image has layout's ABSENT.
 pub const ABSENT_FIELD: u32 = 4294967295;
 
-// What a MAP or LINK step stores: a number or X.
-#[derive(Clone, Copy)]
-pub enum Value {
-    Number(u32),
-    Absent,
-}
-
 // The four kinds of step. `write` is a DATA step's last field, which rule 1 wants 0.
 #[derive(Clone, Copy)]
 pub enum Step {
-    Data { unit: u32, piece: u32, write: u32 },
-    Map { map: u32, word: u32, value: Value },
-    Link { chunk: u32, value: Value },
+    Data {
+        unit: u32,
+        piece: u32,
+        write: u32,
+    },
+    Map {
+        map: u32,
+        word: u32,
+        value: Option<u32>,
+    },
+    Link {
+        chunk: u32,
+        value: Option<u32>,
+    },
     Fence,
-}
-
-// What 16 bytes say: a step, or none: another kind, or a LINK or FENCE whose unused fields are not 0.
-#[derive(Clone, Copy)]
-pub enum Decoded {
-    Whole(Step),
-    Malformed,
 }
 
 // What a plan is for: a write of a compressed size, or a discard.
@@ -49,13 +46,6 @@ pub enum Decoded {
 pub enum Request {
     Write { chunk: u64, size: u64 },
     Discard { chunk: u64 },
-}
-
-// What a plan has at a position: what its next 16 bytes say, or the end of its whole steps.
-#[derive(Clone, Copy)]
-pub enum Found {
-    Next(Decoded),
-    End,
 }
 
 // A plan, and how many of its steps have been read.
@@ -68,6 +58,6 @@ pub struct Reader<'a> {
 // What a reader found, and the reader past it.
 #[derive(Clone, Copy)]
 pub struct Advanced<'a> {
-    pub found: Found,
+    pub found: Option<Option<Step>>,
     pub rest: Reader<'a>,
 }

@@ -5,29 +5,24 @@ ghost use Rattle.steps.specs.Steps.{whole_steps, decode_at};
 ghost use Rattle.steps.specs.Reading.{found_at, next_at, reader_at, advanced};
 
 use crate::decode::decode_at;
-use crate::{Advanced, Decoded, Found, Reader, STEP_BYTES};
+use crate::{Advanced, Reader, STEP_BYTES, Step};
 
 // What a plan has at step `at`.
-pub(crate) fn found_at(plan: &[u8], at: usize) -> Found
+#[tactic(auto, unfolding(crate::specs::Reading::found_at))]
+pub(crate) fn found_at(plan: &[u8], at: usize) -> Option<Option<Step>>
     ensures { result ≡ found_at plan.now at }
 {
     let whole = plan.len() / STEP_BYTES;
-    if at < whole {
-        let d = decode_at(plan, at);
-        return Found::Next(d);
-    }
-    Found::End
+    (at < whole).then(|| decode_at(plan, at))
 }
 
 // The position past what a plan has at step `at`.
+#[tactic(auto, unfolding(crate::specs::Reading::next_at))]
 pub(crate) fn next_at(plan: &[u8], at: usize) -> usize
     ensures { result ≡ next_at plan.now at }
 {
     let whole = plan.len() / STEP_BYTES;
-    if whole <= at {
-        return at;
-    }
-    at + 1
+    if at < whole { at + 1 } else { at }
 }
 
 // A reader of a plan at step `at`.
@@ -41,28 +36,25 @@ pub fn start<'a>(plan: &'a [u8], at: usize) -> Reader<'a>
 pub fn read<'a>(r: Reader<'a>) -> Advanced<'a>
     ensures { result ≡ advanced r.entry }
 {
-    let found = found_at(r.plan, r.at);
     let at = next_at(r.plan, r.at);
     Advanced {
-        found,
-        rest: Reader { plan: r.plan, at },
+        found: found_at(r.plan, r.at),
+        rest: Reader { at, ..r },
     }
 }
 
 // What a reader at step `at` of a plan finds.
-pub fn next_of(plan: &[u8], at: usize) -> Found
+pub fn next_of(plan: &[u8], at: usize) -> Option<Option<Step>>
     ensures { result ≡ found_at plan.now at }
 {
     read(start(plan, at)).found
 }
 
 // What step `at` of a plan says.
-pub fn step_at(plan: &[u8], at: usize) -> Decoded
+#[tactic(auto, unfolding(crate::specs::Reading::found_at))]
+pub fn step_at(plan: &[u8], at: usize) -> Option<Step>
     requires { at < whole_steps plan.now }
     ensures { result ≡ decode_at plan.now at }
 {
-    match next_of(plan, at) {
-        Found::Next(d) => d,
-        Found::End => Decoded::Malformed,
-    }
+    next_of(plan, at).flatten()
 }

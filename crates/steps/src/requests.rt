@@ -12,8 +12,7 @@ pub fn chunk_of(request: Request) -> u64
     ensures { result ≡ chunk_of request }
 {
     match request {
-        Request::Write { chunk, size: _ } => chunk,
-        Request::Discard { chunk } => chunk,
+        Request::Write { chunk, .. } | Request::Discard { chunk } => chunk,
     }
 }
 
@@ -22,8 +21,8 @@ pub fn size_of(request: Request) -> u64
     ensures { result ≡ size_of request }
 {
     match request {
-        Request::Write { chunk: _, size } => size,
-        Request::Discard { chunk: _ } => 0,
+        Request::Write { size, .. } => size,
+        Request::Discard { .. } => 0,
     }
 }
 
@@ -33,8 +32,8 @@ pub fn need_of(request: Request) -> u32
     ensures { (result ≡ need_of request) × (result ≤ max_chunk_units) }
 {
     match request {
-        Request::Write { chunk: _, size } => units_for(size) as u32,
-        Request::Discard { chunk: _ } => 0,
+        Request::Write { size, .. } => units_for(size) as u32,
+        Request::Discard { .. } => 0,
     }
 }
 
@@ -43,7 +42,7 @@ pub fn good_size(g: Shape, request: Request) -> bool
     ensures { result ≡ good_size g request }
 {
     match request {
-        Request::Write { chunk: _, size } => is_size(g, size),
-        Request::Discard { chunk: _ } => true,
+        Request::Write { size, .. } => is_size(g, size),
+        Request::Discard { .. } => true,
     }
 }

@@ -2,36 +2,26 @@
 ghost use Rattle.std.specs.Prelude.{◌≡◌};
 ghost use Rattle.steps.specs.Steps.{value_of, field_of, word_of};
 
-use crate::{ABSENT_FIELD, Value};
+use crate::ABSENT_FIELD;
 use layout::ABSENT;
 
 // The value that a field says.
-pub fn value_of(field: u32) -> Value
+pub fn value_of(field: u32) -> Option<u32>
     ensures { result ≡ value_of field }
 {
-    if field == ABSENT_FIELD {
-        Value::Absent
-    } else {
-        Value::Number(field)
-    }
+    (field != ABSENT_FIELD).then_some(field)
 }
 
 // The field that a value is written as.
-pub fn field_of(value: Value) -> u32
+pub fn field_of(value: Option<u32>) -> u32
     ensures { result ≡ field_of value }
 {
-    match value {
-        Value::Number(w) => w,
-        Value::Absent => ABSENT_FIELD,
-    }
+    value.unwrap_or(ABSENT_FIELD)
 }
 
 // The word that a value is stored as.
-pub fn word_of(value: Value) -> u64
+pub fn word_of(value: Option<u32>) -> u64
     ensures { result ≡ word_of value }
 {
-    match value {
-        Value::Number(w) => w as u64,
-        Value::Absent => ABSENT,
-    }
+    value.map_or(ABSENT, u64::from)
 }

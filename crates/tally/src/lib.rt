@@ -6,10 +6,6 @@ ghost use Rattle.std.specs.Prelude.{◌≡◌, true, false, ◌^◌, ◌≤◌, 
 ghost use Rattle.search.specs.Sets.{put};
 ghost use Rattle.tally.specs.Tallies.{in_word, word_of_set, expected, tick_off};
 
-use crate::bools::both;
-
-pub mod bools;
-
 // The bit that a wrong number sets: no number from 63 on is ever expected.
 const WRONG: u32 = 63;
 
@@ -51,20 +47,17 @@ fn without(left: u64, j: u32) -> u64
 fn spoilt(left: u64) -> u64
     ensures { result ≡ word_of_set (put (in_word left) 63 true) }
 {
-    let b = bit(WRONG);
-    left | b
+    left | bit(WRONG)
 }
 
 // The tally after number j comes, right or not.
+#[tactic(auto, unfolding(crate::specs::Tallies::ticked, crate::specs::Tallies::tick_off))]
 pub fn tick_off(left: u64, j: u32, right: bool) -> u64
     ensures { result ≡ tick_off left j right }
 {
-    if WRONG <= j {
-        return spoilt(left);
+    if j < WRONG && is_expected(left, j) && right {
+        without(left, j)
+    } else {
+        spoilt(left)
     }
-    let due = is_expected(left, j);
-    if !both(due, right) {
-        return spoilt(left);
-    }
-    without(left, j)
 }

@@ -12,15 +12,15 @@ use Rattle.carry.proofs.carry_steps.Goals as goal
 pub loop-i-init : goal.loop-i-init
 loop-i-init c = (omega arith, c.requires.on, carry-start c.args.image.now c.args.plan.now c.args.n)
 
-pub step_at-d-requires : goal.step_at-d-requires
-step_at-d-requires c = omega (arith, c.loop-i.invariant.0)
+pub step_at-requires : goal.step_at-requires
+step_at-requires c = omega (arith, c.loop-i.invariant.0)
 
 pub carry_decoded-requires : goal.carry_decoded-requires
 carry_decoded-requires c =
     let l = c.loop-i in
     let step = step_in c.args.g c.args.plan.now c.requires.plan_value.0 l.i (omega arith) in record {
       on = l.invariant.1;
-      d_value = ap (whole_in_range c.args.g) c.step_at-d.ensures ∙ step;
+      d_value = ap (whole_in_range c.args.g) c.step_at.ensures ∙ step;
     }
 
 pub loop-i-preserved : goal.loop-i-preserved
@@ -28,7 +28,7 @@ loop-i-preserved c =
     let l = c.loop-i in
     let plan = c.args.plan.now in
     let step = step_in c.args.g plan c.requires.plan_value.0 l.i (omega arith) in
-    let after = c.carry_decoded.ensures ∙ ap (carry_decoded l.image) c.step_at-d.ensures in
+    let after = c.carry_decoded.ensures ∙ ap (carry_decoded l.image) c.step_at.ensures in
     let turn = carry-turn l.image plan c.args.n c.args.g c.requires.plan_value.0 c.requires.plan_value.1 l.i (omega arith) in
     (omega arith, subst (On c.args.g) (sym after) (on-decoded c.args.g l.image l.invariant.1 (decode_at plan l.i) step), rw after (turn ∙ l.invariant.2))
 

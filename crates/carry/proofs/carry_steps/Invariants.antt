@@ -9,6 +9,3 @@ use Rattle.carry.proofs.carry_steps.Given as goal
 
 abbrev pub invariant-loop-i : goal.invariant-loop-i
 invariant-loop-i l = (l.i ≤ l.n) × On l.g l.image × (carry_all l.image (take (l.n - l.i) (rest l.plan l.i)) ≡ carried l.initial.image l.plan l.n)
-
-abbrev pub decreases-loop-i : goal.decreases-loop-i
-decreases-loop-i l = l.n - l.i

@@ -1,11 +1,7 @@
 -- `tally::expect` meets its contract: one less than bit n is the word of the numbers below n, by `expected-is`.
 use Rattle.tally.proofs.WordSets.{expected-is}
-use lib.Pow.{pow_pos}
 use native.Mathlib.Omega.{arith}
 use Rattle.tally.proofs.expect.Goals as goal
-
-pub overflow_sub-result : goal.overflow_sub-result
-overflow_sub-result c = rw c.bit.ensures (pow_pos c.args.n)
 
 pub returns : goal.returns
 returns c = rw c.bit.ensures (expected-is c.args.n (omega arith))

@@ -4,4 +4,4 @@ use native.Mathlib.Omega.{arith}
 use Rattle.tally.proofs.spoilt.Goals as goal
 
 pub returns : goal.returns
-returns c = rw c.bit-b.ensures (with-is c.args.left 63 (omega arith) (omega arith))
+returns c = rw c.bit.ensures (with-is c.args.left 63 (omega arith) (omega arith))

@@ -7,14 +7,13 @@ use Rattle.steps.proofs.Rest.{rest}
 use Rattle.steps.specs.Steps.{steps_of, whole_steps, decode_at}
 use Rattle.search.specs.Search.{from, all}
 use mathlib.Core.Path.{◌≡◌}
-use Prim.Native.Nat.{◌≤◌, ◌-◌}
+use Prim.Native.Nat.{◌-◌}
 use Rattle.pass.proofs.seeing.see_all.Given as goal
 
 abbrev pub invariant-loop-at : goal.invariant-loop-at
 invariant-loop-at l =
-    (l.at ≤ whole_steps l.plan) × (rule1 l.g l.plan ≡ all (λ a. whole_in_range l.g (decode_at l.plan a)) (from l.at (whole_steps l.plan - l.at)))
-    × (fold (see l.i (unit_at l.dealt) (after_head l.heads l.size (unit_at l.dealt))) l.initial.seen (steps_of l.plan)
-    ≡ fold (see l.i (unit_at l.dealt) (after_head l.heads l.size (unit_at l.dealt))) l.seen (rest l.plan l.at))
-
-abbrev pub decreases-loop-at : goal.decreases-loop-at
-decreases-loop-at l = whole_steps l.plan - l.at
+    let step = see l.due.chunk (unit_at l.due.dealt.now) (after_head l.due.heads l.due.size (unit_at l.due.dealt.now)) in
+    record {
+      ranged : rule1 l.g l.plan ≡ all (λ a. whole_in_range l.g (decode_at l.plan a)) (from l.at (whole_steps l.plan - l.at));
+      folded : fold step l.initial.seen (steps_of l.plan) ≡ fold step l.seen (rest l.plan l.at);
+    }

@@ -1,5 +1,5 @@
 -- `planner::plan::put_data` meets its contract: the steps left to store from turn j on give all.
-use Prim.Native.Nat.{◌+◌, ◌-◌, ◌≤◌}
+use Prim.Native.Nat.{◌+◌, ◌-◌}
 use mathlib.Core.List.{map}
 use mathlib.Core.Path.{◌≡◌}
 use lib.ListN.{length}
@@ -10,8 +10,5 @@ use Rattle.planner.proofs.plan.put_data.Given as goal
 
 abbrev pub invariant-loop-j : goal.invariant-loop-j
 invariant-loop-j l =
-    (l.j ≤ length l.units) × (length l.out ≡ length l.initial.out)
-    × (put_steps l.out (l.at + l.j) (map (data_step l.units) (from l.j (length l.units - l.j))) ≡ put_steps l.initial.out l.at (map (data_step l.units) (below (length l.units))))
-
-abbrev pub decreases-loop-j : goal.decreases-loop-j
-decreases-loop-j l = length l.units - l.j
+    put_steps l.out (l.at + l.j) (map (data_step l.units) (from l.j (length l.units - l.j)))
+    ≡ put_steps l.initial.out l.at (map (data_step l.units) (below (length l.units)))

@@ -4,5 +4,5 @@ use Rattle.planner.proofs.plan.put_write.Goals as goal
 
 pub returns : goal.returns
 returns c =
-    let a = c.args in
-    cc (write-stored a.out.now a.heads a.size a.units.now a.map a.words a.chunk)
+    let m = c.args.filled.now in
+    cc (write-stored c.args.out.now m.heads m.size m.units.now m.map m.words c.args.chunk)

@@ -11,11 +11,11 @@ returns-in-Data c = rw (put_steps-one, c.in-Data.is) c.put_fields.ensures
 
 pub returns-in-Map : goal.returns-in-Map
 unfolding encode
-returns-in-Map c = rw (put_steps-one, c.in-Map.is, ← c.field_of-v.ensures) c.put_fields-in-Map.ensures
+returns-in-Map c = rw (put_steps-one, c.in-Map.is, ← c.field_of.ensures) c.put_fields-in-Map.ensures
 
 pub returns-in-Link : goal.returns-in-Link
 unfolding encode
-returns-in-Link c = rw (put_steps-one, c.in-Link.is, ← c.field_of-v-in-Link.ensures) c.put_fields-in-Link.ensures
+returns-in-Link c = rw (put_steps-one, c.in-Link.is, ← c.field_of-in-Link.ensures) c.put_fields-in-Link.ensures
 
 pub returns-in-Fence : goal.returns-in-Fence
 unfolding encode
