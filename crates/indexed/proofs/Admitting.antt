@@ -1,4 +1,5 @@
 -- When an index goes with an image: what the functions that admit a call owe, and what a call that was admitted knows.
+use Rattle.std.specs.Prelude.{Result, Ok, Err, ⊤}
 use Prim.Native.Nat.{ℕ, ◌*◌, ◌≤◌, ◌<◌}
 use mathlib.Core.Path.{◌≡◌, refl, sym, ap, subst, ◌∙◌}
 use mathlib.Core.Bool.{Bool, true, false, not, not-not}
@@ -11,15 +12,9 @@ use Rattle.search.proofs.Bools.{and_left, and_right, either, cond-true, cond-fal
 use Rattle.layout.specs.declared.Shape.{Shape}
 use Rattle.layout.specs.declared.Refusal.{Refusal}
 use Rattle.layout.specs.declared.Refusal.TheVariants.{Geometry, BadLink, Small}
-use Rattle.layout.specs.declared.Trailer.{Trailer}
-use Rattle.layout.specs.declared.Trailer.TheVariants.{Fits, Refused as TrailerRefused}
 use Rattle.layout.specs.Trailer.{trailer_outcome}
 use Rattle.layout.specs.Shaped.{Shaped, On}
 use Rattle.layout.proofs.Limits.{fits_on, on-shaped}
-use Rattle.image.specs.declared.Verdict.{Verdict}
-use Rattle.image.specs.declared.Verdict.TheVariants.{Passed, Refused}
-use Rattle.image.specs.declared.Outcome.{Outcome}
-use Rattle.image.specs.declared.Outcome.TheVariants.{Sound, Refused as OutcomeRefused}
 use Rattle.image.specs.Verdicts.{good_link, after_trailer}
 use Rattle.image.proofs.Loads.{sound-passed}
 use Rattle.indexed.specs.Admitting.{same_shape, matched, trailer_by, enough, bad_entry, entry_verdict, verdict_by, chunk_verdict_by, outcome_by}
@@ -40,56 +35,46 @@ same-shape g h e =
 
 -- ---- the trailer
 
-module _ (h : Shape) (s : List ℕ) where
-  pub trailer-refused : (r : Refusal) → trailer_outcome s ≡ TrailerRefused r → TrailerRefused r ≡ trailer_by h s
-  unfolding trailer_by
-  trailer-refused r e = rw e
-
-  module _ (g : Shape) (e : trailer_outcome s ≡ Fits g) where
-    pub trailer-same : same_shape g h ≡ true → Fits g ≡ trailer_by h s
-    unfolding trailer_by
-    trailer-same q = rw (e, q)
-
-    pub trailer-other : same_shape g h ≡ false → TrailerRefused Geometry ≡ trailer_by h s
-    unfolding trailer_by
-    trailer-other q = rw (e, q)
+pub trailer-same : (h : Shape) (s : List ℕ) (g : Shape) → trailer_outcome s ≡ Ok g → same_shape g h ≡ true → Ok g ≡ trailer_by h s
+unfolding trailer_by
+trailer-same h s g e q = rw (e, q)
 
 -- a shape that is handed on is the image's own and the index's
-match-fits : (h g : Shape) (t : Trailer) → matched h t ≡ Fits g → (t ≡ Fits g) × (g ≡ h)
-match-fits h g (Fits k) e = go (either (same_shape k h))
+match-fits : (h g : Shape) (t : Result Shape Refusal) → matched h t ≡ Ok g → (t ≡ Ok g) × (g ≡ h)
+match-fits h g (Ok k) e = go (either (same_shape k h))
   where
-    go : (same_shape k h ≡ true) ⊎ (same_shape k h ≡ false) → (Fits k ≡ Fits g) × (g ≡ h)
+    go : (same_shape k h ≡ true) ⊎ (same_shape k h ≡ false) → (◌≡◌ {A = Result Shape Refusal} (Ok k) (Ok g)) × (g ≡ h)
     go (inl q) =
-        let z : Fits k ≡ Fits g = sym (cond-true (same_shape k h) (Fits k) (TrailerRefused Geometry) q) ∙ e in
+        let z : ◌≡◌ {A = Result Shape Refusal} (Ok k) (Ok g) = sym (cond-true (same_shape k h) (Ok k) (Err Geometry) q) ∙ e in
         let y : k ≡ g = cc in
         (z, sym y ∙ same-shape k h q)
     go (inr q) =
-        let z : TrailerRefused Geometry ≡ Fits g = sym (cond-false (same_shape k h) (Fits k) (TrailerRefused Geometry) q) ∙ e in
+        let z : ◌≡◌ {A = Result Shape Refusal} (Err Geometry) (Ok g) = sym (cond-false (same_shape k h) (Ok k) (Err Geometry) q) ∙ e in
         let y : ◌≡◌ {A = ℕ} 0 1 = cc in
         absurd (omega arith)
-match-fits h g (TrailerRefused r) e = let y : ◌≡◌ {A = ℕ} 0 1 = cc in absurd (omega arith)
+match-fits h g (Err r) e = let y : ◌≡◌ {A = ℕ} 0 1 = cc in absurd (omega arith)
 
-pub trailer-fits : (h g : Shape) (s : List ℕ) → trailer_by h s ≡ Fits g → On g s × (g ≡ h)
+pub trailer-fits : (h g : Shape) (s : List ℕ) → trailer_by h s ≡ Ok g → On g s × (g ≡ h)
 unfolding trailer_by
 trailer-fits h g s e = let m = match-fits h g (trailer_outcome s) e in (fits_on s g m.0, m.1)
 
 -- ---- the words and the entry
 
-pub few : (words : ℕ) → words < set_words → enough words ≡ Refused (Small (8 * set_words))
+pub few : (words : ℕ) → words < set_words → enough words ≡ Err (Small (8 * set_words))
 unfolding enough
 few words l = rw (lt-ltb words set_words l)
 
-pub many : (words : ℕ) → set_words ≤ words → enough words ≡ Passed
+pub many : (words : ℕ) → set_words ≤ words → enough words ≡ Ok tt
 unfolding enough
 many words l = rw (le-ltb words set_words l)
 
-passed-many : (words : ℕ) → enough words ≡ Passed → set_words ≤ words
+passed-many : (words : ℕ) → enough words ≡ Ok tt → set_words ≤ words
 unfolding enough
 passed-many words e = go (either (ltb words set_words))
   where
     go : (ltb words set_words ≡ true) ⊎ (ltb words set_words ≡ false) → set_words ≤ words
     go (inl q) =
-        let z : Refused (Small (8 * set_words)) ≡ Passed = sym (cond-true (ltb words set_words) (Refused (Small (8 * set_words))) Passed q) ∙ e in
+        let z : ◌≡◌ {A = Result ⊤ Refusal} (Err (Small (8 * set_words))) (Ok tt) = sym (cond-true (ltb words set_words) (Err (Small (8 * set_words))) (Ok tt) q) ∙ e in
         let y : ◌≡◌ {A = ℕ} 0 1 = cc in
         absurd (omega arith)
     go (inr q) = ltb-false words set_words q
@@ -111,54 +96,51 @@ module _ (h : Shape) (s : List ℕ) (i : ℕ) where
   entry-good : bad_entry h s i ≡ false → i < h.c → good_link s i ≡ true
   entry-good e l = sym (not-not (good_link s i)) ∙ ap not (sym (entry-tested l) ∙ e)
 
-  pub entry-refused : (words : ℕ) → bad_entry h s i ≡ true → entry_verdict h words s i ≡ Refused (BadLink i)
-  entry-refused words e = cond-true (bad_entry h s i) (Refused (BadLink i)) (enough words) e
+  pub entry-refused : (words : ℕ) → bad_entry h s i ≡ true → entry_verdict h words s i ≡ Err (BadLink i)
+  entry-refused words e = cond-true (bad_entry h s i) (Err (BadLink i)) (enough words) e
 
   pub entry-passed : (words : ℕ) → bad_entry h s i ≡ false → entry_verdict h words s i ≡ enough words
-  entry-passed words e = cond-false (bad_entry h s i) (Refused (BadLink i)) (enough words) e
+  entry-passed words e = cond-false (bad_entry h s i) (Err (BadLink i)) (enough words) e
 
-  passed_entry : (words : ℕ) → entry_verdict h words s i ≡ Passed → (bad_entry h s i ≡ false) × (enough words ≡ Passed)
+  passed_entry : (words : ℕ) → entry_verdict h words s i ≡ Ok tt → (bad_entry h s i ≡ false) × (enough words ≡ Ok tt)
   passed_entry words e = go (either (bad_entry h s i))
     where
-      go : (bad_entry h s i ≡ true) ⊎ (bad_entry h s i ≡ false) → (bad_entry h s i ≡ false) × (enough words ≡ Passed)
+      go : (bad_entry h s i ≡ true) ⊎ (bad_entry h s i ≡ false) → (bad_entry h s i ≡ false) × (enough words ≡ Ok tt)
       go (inl q) =
-          let z : Refused (BadLink i) ≡ Passed = sym (entry-refused words q) ∙ e in
+          let z : ◌≡◌ {A = Result ⊤ Refusal} (Err (BadLink i)) (Ok tt) = sym (entry-refused words q) ∙ e in
           let y : ◌≡◌ {A = ℕ} 0 1 = cc in
           absurd (omega arith)
       go (inr q) = (q, sym (entry-passed words q) ∙ e)
 
 -- ---- what `admit` and `admit_chunk` owe at each return: v is what is asked after the trailer
 
-module _ (h : Shape) (s : List ℕ) (v : Verdict) where
-  pub after-refused : (r : Refusal) → trailer_by h s ≡ TrailerRefused r → OutcomeRefused r ≡ outcome_by h (after_trailer (trailer_by h s) v)
-  after-refused r e = rw e
-
-  module _ (g : Shape) (e : trailer_by h s ≡ Fits g) where
-    pub after-denied : (r : Refusal) → v ≡ Refused r → OutcomeRefused r ≡ outcome_by h (after_trailer (trailer_by h s) v)
+module _ (h : Shape) (s : List ℕ) (v : Result ⊤ Refusal) where
+  module _ (g : Shape) (e : trailer_by h s ≡ Ok g) where
+    pub after-denied : (r : Refusal) → v ≡ Err r → Err r ≡ outcome_by h (after_trailer (trailer_by h s) v)
     after-denied r q = rw (e, q)
 
-    pub after-passed : v ≡ Passed → Sound g ≡ outcome_by h (after_trailer (trailer_by h s) v)
+    pub after-passed : v ≡ Ok tt → Ok g ≡ outcome_by h (after_trailer (trailer_by h s) v)
     after-passed q = rw (e, q, (trailer-fits h g s e).1)
 
 -- of a call on chunk i, where b is what `bad_entry` answers
-module _ (h g : Shape) (words : ℕ) (s : List ℕ) (i : ℕ) (e : trailer_by h s ≡ Fits g) (b : Bool) (k : b ≡ bad_entry g s i) where
+module _ (h g : Shape) (words : ℕ) (s : List ℕ) (i : ℕ) (e : trailer_by h s ≡ Ok g) (b : Bool) (k : b ≡ bad_entry g s i) where
   here : bad_entry h s i ≡ b
   here = ap (λ (q : Shape). bad_entry q s i) (sym (trailer-fits h g s e).1) ∙ sym k
 
   pub chunk-below : b ≡ true → i < g.c
   chunk-below q = entry-below g s i (sym k ∙ q)
 
-  pub chunk-denied : b ≡ true → OutcomeRefused (BadLink i) ≡ outcome_by h (chunk_verdict_by h words s i)
+  pub chunk-denied : b ≡ true → Err (BadLink i) ≡ outcome_by h (chunk_verdict_by h words s i)
   unfolding chunk_verdict_by
   chunk-denied q = after-denied h s (entry_verdict h words s i) g e (BadLink i) (entry-refused h s i words (here ∙ q))
 
   module _ (q : b ≡ false) where
-    pub chunk-few : words < set_words → OutcomeRefused (Small (8 * set_words)) ≡ outcome_by h (chunk_verdict_by h words s i)
+    pub chunk-few : words < set_words → Err (Small (8 * set_words)) ≡ outcome_by h (chunk_verdict_by h words s i)
     unfolding chunk_verdict_by
     chunk-few l =
         after-denied h s (entry_verdict h words s i) g e (Small (8 * set_words)) (entry-passed h s i words (here ∙ q) ∙ few words l)
 
-    pub chunk-passed : set_words ≤ words → Sound g ≡ outcome_by h (chunk_verdict_by h words s i)
+    pub chunk-passed : set_words ≤ words → Ok g ≡ outcome_by h (chunk_verdict_by h words s i)
     unfolding chunk_verdict_by
     chunk-passed l = after-passed h s (entry_verdict h words s i) g e (entry-passed h s i words (here ∙ q) ∙ many words l)
 
@@ -170,25 +152,25 @@ pub record Admitted (s : List ℕ) (h g : Shape) (words : ℕ) : Type 0 where
   pub shaped : Shaped s g
   pub room : set_words ≤ words
 
-after-fits : (t : Trailer) (v : Verdict) → after_trailer t v ≡ Passed → ((g : Shape) × (t ≡ Fits g)) × (v ≡ Passed)
-after-fits (Fits g) v e = ((g, refl), e)
-after-fits (TrailerRefused r) v e = let y : ◌≡◌ {A = ℕ} 0 1 = cc in absurd (omega arith)
+after-fits : (t : Result Shape Refusal) (v : Result ⊤ Refusal) → after_trailer t v ≡ Ok tt → ((g : Shape) × (t ≡ Ok g)) × (v ≡ Ok tt)
+after-fits (Ok g) v e = ((g, refl), e)
+after-fits (Err r) v e = let y : ◌≡◌ {A = ℕ} 0 1 = cc in absurd (omega arith)
 
-module _ (h g : Shape) (words : ℕ) (s : List ℕ) (o : Outcome) (q : o ≡ Sound g) where
-  fitted : (v : Verdict) → o ≡ outcome_by h (after_trailer (trailer_by h s) v) → (On g s) × (g ≡ h) × (v ≡ Passed)
+module _ (h g : Shape) (words : ℕ) (s : List ℕ) where
+  fitted : (v : Result ⊤ Refusal) → Ok g ≡ outcome_by h (after_trailer (trailer_by h s) v) → On g s × (g ≡ h) × (v ≡ Ok tt)
   fitted v e =
-      let p = sound-passed (after_trailer (trailer_by h s) v) h g (sym e ∙ q) in
+      let p = sound-passed (after_trailer (trailer_by h s) v) h g (sym e) in
       let f = after-fits (trailer_by h s) v p.0 in
       let k = trailer-fits h f.0.0 s f.0.1 in
       (subst (λ (x : Shape). On x s) (k.1 ∙ sym p.1) k.0, p.1, f.1)
 
-  pub admitted : o ≡ outcome_by h (verdict_by h words s) → Admitted s h g words
+  pub admitted : Ok g ≡ outcome_by h (verdict_by h words s) → Admitted s h g words
   unfolding verdict_by
   admitted e =
       let f = fitted (enough words) e in
       record { shape = f.1; on = f.0; shaped = on-shaped g s f.0; room = passed-many words f.2 }
 
-  module _ (i : ℕ) (e : o ≡ outcome_by h (chunk_verdict_by h words s i)) where
+  module _ (i : ℕ) (e : Ok g ≡ outcome_by h (chunk_verdict_by h words s i)) where
     pub admitted-chunk : Admitted s h g words
     unfolding chunk_verdict_by
     admitted-chunk =

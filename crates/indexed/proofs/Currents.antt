@@ -1,4 +1,5 @@
 -- An index that is current is admitted by every call, and what a call answers by it and leaves is what the scanning call does.
+use Rattle.std.specs.Prelude.{Result, Ok, Err, ⊤}
 use Prim.Native.Nat.{ℕ, ◌≤◌, ◌<◌}
 use native.Mathlib.Omega.{arith}
 use mathlib.Core.Path.{◌≡◌, refl, sym, ap, subst, ◌∙◌}
@@ -13,13 +14,8 @@ use Rattle.bitset.specs.Bits.{bit_set, in_set}
 use Rattle.bitset.proofs.BitSets.{length-bit_set}
 use Rattle.layout.specs.declared.Shape.{Shape}
 use Rattle.layout.specs.declared.Refusal.{Refusal}
-use Rattle.layout.specs.declared.Trailer.{Trailer}
-use Rattle.layout.specs.declared.Trailer.TheVariants.{Fits}
 use Rattle.layout.specs.Layout.{shape_of}
 use Rattle.layout.proofs.Limits.{on_fits, shaped}
-use Rattle.image.specs.declared.Verdict.{Verdict}
-use Rattle.image.specs.declared.Verdict.TheVariants.{Passed, Refused}
-use Rattle.image.specs.declared.Outcome.TheVariants.{Sound}
 use Rattle.image.specs.declared.Loaded.{Loaded}
 use Rattle.image.specs.Soundness.{mapped}
 use Rattle.image.specs.Verdicts.{verdict, good_link, after_trailer}
@@ -29,26 +25,20 @@ use Rattle.image.specs.Loading.{unit_set_words, map_set_words}
 use Rattle.image.specs.Answers.{if_sound}
 use Rattle.image.proofs.SoundLaws.{passed-tested}
 use Rattle.image.proofs.Loads.{Known as Loads, sound-passed}
-use Rattle.access.specs.declared.Access.TheVariants.{Refused as NoAccess}
-use Rattle.access.specs.declared.Stored.TheVariants.{Refused as NotStored}
 use Rattle.access.specs.Ranges.{reads_first, access_answer}
-use Rattle.access.specs.Parts.{held_of, not_held, held_on}
+use Rattle.access.specs.Parts.{held_of, held_on}
 use Rattle.access.specs.Sizes.{size_answer, size_on}
 use Rattle.access.proofs.PartLaws.{held-judged}
 use Rattle.access.proofs.SizeLaws.{size-judged}
 use Rattle.report.specs.declared.Level.{Level}
-use Rattle.report.specs.declared.Alarm.TheVariants.{Refused as NoAlarm}
 use Rattle.report.specs.Counts.{free_count}
-use Rattle.report.specs.Reports.{report_of, passed_report, refused_report, report_answer}
+use Rattle.report.specs.Reports.{report_of, report_answer}
 use Rattle.report.specs.Alarms.{alarm_at, alarm_answer}
 use Rattle.report.proofs.CountLaws.{report-known, alarm-known}
 use Rattle.steps.specs.declared.Request.{Request}
 use Rattle.steps.specs.Steps.{chunk_of, good_chunk}
-use Rattle.rules.specs.declared.Checked.{Checked}
-use Rattle.rules.specs.declared.Checked.TheVariants.{Refused as Denied}
 use Rattle.rules.specs.Rules.{Known, known, known_of, judged, checked}
 use Rattle.rules.proofs.Knowing.{known-loaded, judged-loaded}
-use Rattle.planner.specs.declared.Planned.TheVariants.{Refused as NotPlanned}
 use Rattle.planner.specs.Planner.{plan_of, plan_in, plan_answer, written, out_in, plan_out}
 use Rattle.carry.specs.Carry.{carry_in, carry_answer, left_by, carry_image}
 use Rattle.indexed.specs.Admitting.{Index, same_shape, trailer_by, enough, bad_entry, entry_verdict, verdict_by, chunk_verdict_by}
@@ -110,7 +100,7 @@ module _ (s : List ℕ) (ix : Index) (c : Current s ix) where
       let e = ap length c.maps ∙ length-bit_set (free_map s) map_set_words in
       omega arith
 
-  trailer-fits : trailer_by ix.shape s ≡ Fits (shape_of s)
+  trailer-fits : trailer_by ix.shape s ≡ Ok (shape_of s)
   trailer-fits =
       sym (trailer-same ix.shape s (shape_of s) (on_fits s tested.long tested.known tested.fitting)
       (ap (same_shape (shape_of s)) c.shape ∙ same-own (shape_of s)))
@@ -122,21 +112,21 @@ module _ (s : List ℕ) (ix : Index) (c : Current s ix) where
       (λ l. entry_past ix.shape s i l)
       (less-or-not i ix.shape.c)
 
-  pub current-admitted : refuses_by ix s ≡ Passed
+  pub current-admitted : refuses_by ix s ≡ Ok tt
   unfolding verdict_by
   current-admitted =
-      let n = length ix.sets in ap (λ (t : Trailer). after_trailer t (enough n)) trailer-fits ∙ many n words
+      let n = length ix.sets in ap (λ (t : Result Shape Refusal). after_trailer t (enough n)) trailer-fits ∙ many n words
 
-  pub current-chunk : (i : ℕ) → chunk_refuses_by ix s i ≡ Passed
+  pub current-chunk : (i : ℕ) → chunk_refuses_by ix s i ≡ Ok tt
   unfolding chunk_verdict_by
   current-chunk i =
       let n = length ix.sets in
-      ap (λ (t : Trailer). after_trailer t (entry_verdict ix.shape n s i)) trailer-fits ∙ entry-passed ix.shape s i n (entry-fine i) ∙ many n words
+      ap (λ (t : Result Shape Refusal). after_trailer t (entry_verdict ix.shape n s i)) trailer-fits ∙ entry-passed ix.shape s i n (entry-fine i) ∙ many n words
 
   -- ---- what is known by it is what is known of the image
 
   abbrev held : Loaded
-  held = record { verdict = Passed; shape = ix.shape; units = units_in ix.sets; maps = maps_in ix.sets }
+  held = record { shape = ix.shape; units = units_in ix.sets; maps = maps_in ix.sets }
 
   loads : Loads s held
   loads = record {
@@ -151,8 +141,8 @@ module _ (s : List ℕ) (ix : Index) (c : Current s ix) where
 
   -- an answer behind the refusals of an indexed call is the one behind the image's own
   module _ {A : Type 0} (refuse : Refusal → A) (by of : A) (e : by ≡ of) where
-    either_way : (v : Verdict) → v ≡ Passed → if_sound v refuse by ≡ if_sound (verdict s) refuse of
-    either_way v p = ap (λ (w : Verdict). if_sound w refuse by) p ∙ e ∙ ap (λ (w : Verdict). if_sound w refuse of) (sym c.passed)
+    either_way : (v : Result ⊤ Refusal) → v ≡ Ok tt → if_sound v refuse by ≡ if_sound (verdict s) refuse of
+    either_way v p = ap (λ (w : Result ⊤ Refusal). if_sound w refuse by) p ∙ e ∙ ap (λ (w : Result ⊤ Refusal). if_sound w refuse of) (sym c.passed)
 
     asked-whole : if_sound (refuses_by ix s) refuse by ≡ if_sound (verdict s) refuse of
     asked-whole = either_way (refuses_by ix s) current-admitted
@@ -164,20 +154,20 @@ module _ (s : List ℕ) (ix : Index) (c : Current s ix) where
 
   pub same-access : (write : Bool) (offset span : ℕ) → access_answer_by ix s write offset span ≡ access_answer s write offset span
   same-access write offset span =
-      asked-whole NoAccess (reads_first ix.shape (mapped s) write offset span) (reads_first (shape_of s) (mapped s) write offset span)
+      asked-whole Err (reads_first ix.shape (mapped s) write offset span) (reads_first (shape_of s) (mapped s) write offset span)
       (ap (λ (g : Shape). reads_first g (mapped s) write offset span) c.shape)
 
   pub same-held : (i : ℕ) → held_of_by ix s i ≡ held_of s i
-  same-held i = asked-chunk not_held (held_on s i) (held_on s i) refl i ∙ sym (held-judged s i)
+  same-held i = asked-chunk Err (held_on s i) (held_on s i) refl i ∙ sym (held-judged s i)
 
   pub same_size : (i : ℕ) → size_answer_by ix s i ≡ size_answer s i
-  same_size i = asked-chunk NotStored (size_on s i) (size_on s i) refl i ∙ sym (size-judged s i)
+  same_size i = asked-chunk Err (size_on s i) (size_on s i) refl i ∙ sym (size-judged s i)
 
   pub same-report : report_answer_by ix s ≡ report_answer s
-  same-report = asked-whole refused_report _ (passed_report (report_of s)) (ap passed_report (report-known s held loads))
+  same-report = asked-whole Err _ (Ok (report_of s)) (ap Ok (report-known s held loads))
 
   pub same-alarm : (level : Level) → alarm_answer_by ix s level ≡ alarm_answer s level
-  same-alarm level = asked-whole NoAlarm _ (alarm_at (free_count s) (shape_of s).n level) (alarm-known s held loads level)
+  same-alarm level = asked-whole Err _ (alarm_at (free_count s) (shape_of s).n level) (alarm-known s held loads level)
 
   -- ---- what a request is answered, and what it leaves
 
@@ -190,18 +180,18 @@ module _ (s : List ℕ) (ix : Index) (c : Current s ix) where
 
     pub same-plan : (room : ℕ) → plan_answer_by ix s r room ≡ plan_answer s r room
     same-plan room =
-        asked-chunk NotPlanned (plan_in (known_in ix s r) r room) (plan_in (known_of s r) r room)
+        asked-chunk Err (plan_in (known_in ix s r) r room) (plan_in (known_of s r) r room)
         (plan-chunk ix.shape (in_set (units_in ix.sets)) (in_set (maps_in ix.sets)) (mapped s (chunk_of r)) r room
         ∙ ap (λ (kn : Known). plan_in kn r room) same_known)
         (chunk_of r)
 
     pub same_out : (out : List ℕ) → plan_out_by ix s r out ≡ plan_out s r out
     same_out out =
-        ap (λ (v : Verdict). written (if_sound v NotPlanned (plan_in (known_in ix s r) r (length out))) (plan_of (known_in ix s r) r) out)
+        ap (λ (v : Result ⊤ Refusal). written (if_sound v Err (plan_in (known_in ix s r) r (length out))) (plan_of (known_in ix s r) r) out)
         (current-chunk (chunk_of r))
         ∙ out-chunk ix.shape (in_set (units_in ix.sets)) (in_set (maps_in ix.sets)) (mapped s (chunk_of r)) r out
         ∙ ap (λ (kn : Known). out_in kn r out) same_known
-        ∙ ap (λ (v : Verdict). written (if_sound v NotPlanned (plan_in (known_of s r) r (length out))) (plan_of (known_of s r) r) out) (sym c.passed)
+        ∙ ap (λ (v : Result ⊤ Refusal). written (if_sound v Err (plan_in (known_of s r) r (length out))) (plan_of (known_of s r) r) out) (sym c.passed)
 
     module _ (plan : List ℕ) where
       same-judged : judged (known_in ix s r) r plan ≡ judged (known_of s r) r plan
@@ -209,19 +199,19 @@ module _ (s : List ℕ) (ix : Index) (c : Current s ix) where
 
       pub same-checked : checked_by ix s r plan ≡ checked s r plan
       unfolding checked
-      same-checked = asked-chunk Denied (judged (known_in ix s r) r plan) (judged (known_of s r) r plan) same-judged (chunk_of r)
+      same-checked = asked-chunk Err (judged (known_in ix s r) r plan) (judged (known_of s r) r plan) same-judged (chunk_of r)
 
       pub same-carry : (n : ℕ) → carry_answer_by ix s r plan n ≡ carry_answer s r plan n
       unfolding carry_in
-      same-carry n = asked-chunk Denied (carry_in (known_in ix s r) r plan n) (carry_in (known_of s r) r plan n) (rw same-judged) (chunk_of r)
+      same-carry n = asked-chunk Err (carry_in (known_in ix s r) r plan n) (carry_in (known_of s r) r plan n) (rw same-judged) (chunk_of r)
 
       pub same-image : (n : ℕ) → carry_image_by ix s r plan n ≡ carry_image s r plan n
-      same-image n = ap (λ (a : Checked). left_by a s plan n) (same-carry n)
+      same-image n = ap (λ (a : Result ⊤ Refusal). left_by a s plan n) (same-carry n)
 
 -- ---- the index of an image that was opened
 
 -- an image that passes, with its sets in the first of some words
-pub free-current : (s rest : List ℕ) → verdict s ≡ Passed → Current s (index_of (shape_of s) (free_sets s ++ rest))
+pub free-current : (s rest : List ℕ) → verdict s ≡ Ok tt → Current s (index_of (shape_of s) (free_sets s ++ rest))
 free-current s rest e =
     let us = bit_set (free_unit s) unit_set_words in
     let ms = bit_set (free_map s) map_set_words in
@@ -236,15 +226,15 @@ free-current s rest e =
           ∙ take_at ms rest map_set_words (length-bit_set (free_map s) map_set_words);
     }
 
-both-passed : (v w : Verdict) → if_sound v Refused w ≡ Passed → (v ≡ Passed) × (w ≡ Passed)
-both-passed Passed w e = (refl, e)
-both-passed (Refused r) w e = let y : ◌≡◌ {A = ℕ} 0 1 = cc in absurd (omega arith)
+both-passed : (v w : Result ⊤ Refusal) → if_sound v Err w ≡ Ok tt → (v ≡ Ok tt) × (w ≡ Ok tt)
+both-passed (Ok tt) w e = (refl, e)
+both-passed (Err r) w e = let y : ◌≡◌ {A = ℕ} 0 1 = cc in absurd (omega arith)
 
-module _ (s sets : List ℕ) (g : Shape) (e : open_outcome s (length sets) ≡ Sound g) where
-  opened : (open_verdict s (length sets) ≡ Passed) × (g ≡ shape_of s)
+module _ (s sets : List ℕ) (g : Shape) (e : open_outcome s (length sets) ≡ Ok g) where
+  opened : (open_verdict s (length sets) ≡ Ok tt) × (g ≡ shape_of s)
   opened = sound-passed (open_verdict s (length sets)) (shape_of s) g e
 
-  pub open-passed : verdict s ≡ Passed
+  pub open-passed : verdict s ≡ Ok tt
   open-passed = (both-passed (verdict s) (enough (length sets)) opened.0).0
 
   pub open-current : Current s (index_of g (open_sets s sets))

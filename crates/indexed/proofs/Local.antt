@@ -1,4 +1,5 @@
 -- Two images that agree on trailer, and on one chunk's entry and map: a call on that chunk with any one index says, stores and gives back the same.
+use Rattle.std.specs.Prelude.{Option, Some, None, Result, Ok, Err, ⊤}
 use Prim.Native.Nat.{ℕ, zero, suc, ◌+◌, ◌-◌, ◌≤◌, ◌<◌}
 use native.Mathlib.Omega.{arith}
 use mathlib.Core.Path.{◌≡◌, refl, sym, ap, subst, ◌∙◌}
@@ -15,37 +16,26 @@ use Rattle.bitset.specs.Bits.{in_set}
 use Rattle.layout.specs.declared.Shape.{Shape}
 use Rattle.layout.specs.declared.Refusal.{Refusal}
 use Rattle.layout.specs.declared.Refusal.TheVariants.{BadLink, Range, Size, BadPlan}
-use Rattle.layout.specs.declared.Trailer.{Trailer}
-use Rattle.layout.specs.declared.Trailer.TheVariants.{Fits, Refused as TrailerRefused}
 use Rattle.layout.specs.Layout.{X, is_unit, unit_words, map_words, edition_of, trailer_at, shape_of, word_at, link_of, words_of, map_word_place}
 use Rattle.layout.specs.Shaped.{Limits, On}
 use Rattle.layout.proofs.Limits.{map-words, maps-few}
 use Rattle.layout.proofs.Place.{Alike, alike-outcome, on-limits, place-past}
-use Rattle.image.specs.declared.Verdict.{Verdict}
-use Rattle.image.specs.declared.Verdict.TheVariants.{Passed, Refused}
-use Rattle.image.specs.declared.Outcome.TheVariants.{Sound}
 use Rattle.image.specs.Soundness.{leading, mapped}
 use Rattle.image.specs.Verdicts.{good_link, after_trailer}
 use Rattle.image.specs.Answers.{if_sound}
 use Rattle.image.proofs.Chunks.{get_or-words_of}
-use Rattle.steps.specs.declared.Value.{Value}
 use Rattle.steps.specs.declared.Step.{Step}
 use Rattle.steps.specs.declared.Step.TheVariants.{Data, Map, Link, Fence}
-use Rattle.steps.specs.declared.Decoded.{Decoded}
-use Rattle.steps.specs.declared.Decoded.TheVariants.{Whole, Malformed}
 use Rattle.steps.specs.declared.Request.{Request}
 use Rattle.steps.specs.declared.Request.TheVariants.{Write, Discard}
 use Rattle.steps.specs.Steps.{whole_steps, decode_at, steps_of, word_of, chunk_of, good_chunk, good_size}
 use Rattle.steps.specs.Encodable.{Each}
-use Rattle.rules.specs.declared.Checked.{Checked}
-use Rattle.rules.specs.declared.Checked.TheVariants.{Accepted, Refused as Denied}
 use Rattle.rules.specs.Rules.{Known, known, in_range, broken_rule, broken, judged}
 use Rattle.rules.specs.Reading.{At, Rule1, Rule3, Rule4, Rule5, OneLink, KeepsAll}
 use Rattle.rules.proofs.StepLaws.{InRange, each-in-range}
 use Rattle.rules.proofs.Places.{at_one, step-there}
 use Rattle.rules.proofs.Accepting.{no-denial, judged-rule1}
 use Rattle.rules.proofs.Lowest.{unbroken-kept}
-use Rattle.planner.specs.declared.Planned.TheVariants.{Refused as NotPlanned}
 use Rattle.planner.specs.Planner.{plan_of, plan_in, written, out_in}
 use Rattle.carry.specs.Carry.{carry, carry_all, carried, says_link, link_within, carry_in, left_by}
 use Rattle.carry.proofs.CarryLaws.{on-carry, carry-miss, carried-word, carried-link, each_take, all-on}
@@ -94,7 +84,7 @@ module _ (g : Shape) (q : ℕ) where
   agreed s t s₁ t₁ (inr k) h = k.0 ∙ h ∙ sym k.1
 
 -- a word of a map that one of the steps stores
-map-stored : (g : Shape) (k j : ℕ) (v : Value) (s t : List ℕ) (xs : List Step) → On g s → On g t → Each (InRange g) xs → (i : ℕ) → At xs i (Map k j v)
+map-stored : (g : Shape) (k j : ℕ) (v : Option ℕ) (s t : List ℕ) (xs : List Step) → On g s → On g t → Each (InRange g) xs → (i : ℕ) → At xs i (Map k j v)
     → word_at (carry_all t xs) (map_word_place g k j) ≡ word_at (carry_all s xs) (map_word_place g k j)
 unfolding carry_all
 map-stored g k j v s t [] o p r i h = absurd h
@@ -112,14 +102,14 @@ map-stored g k j v s t (x ∷ xs) o p r (suc i) h =
 
 module _ (g : Shape) (c w : ℕ) (b : c < g.c) where
   abbrev AllLinks : List Step → Type 0
-  AllLinks xs = (i a : ℕ) (v : Value) → At xs i (Link a v) → word_of v ≡ w
+  AllLinks xs = (i a : ℕ) (v : Option ℕ) → At xs i (Link a v) → word_of v ≡ w
 
   entry_kept : (s : List ℕ) (xs : List Step) → On g s → Each (InRange g) xs → AllLinks xs → link_of s c ≡ w → link_of (carry_all s xs) c ≡ w
   unfolding carry_all
   entry_kept s [] o r l e = e
   entry_kept s (x ∷ xs) o r l e = entry_kept (carry s x) xs (on-carry g s o x r.0) r.1 (λ i a v h. l (suc i) a v h) (step x r.0 (λ a v h. l 0 a v h))
     where
-      step : (x : Step) → in_range g x ≡ true → ((a : ℕ) (v : Value) → x ≡ Link a v → word_of v ≡ w) → link_of (carry s x) c ≡ w
+      step : (x : Step) → in_range g x ≡ true → ((a : ℕ) (v : Option ℕ) → x ≡ Link a v → word_of v ≡ w) → link_of (carry s x) c ≡ w
       step (Data u j wr) h k = e
       step (Map m j v) h k = carry-miss g s o (Map m j v) c (λ q. place-past g m j c b (sym q)) ∙ e
       step (Link i v) h k =
@@ -129,7 +119,7 @@ module _ (g : Shape) (c w : ℕ) (b : c < g.c) where
           (either (eqb i c))
       step Fence h k = e
 
-  entry_set : (v : Value) (s : List ℕ) (xs : List Step) → On g s → Each (InRange g) xs → AllLinks xs → (i : ℕ) → At xs i (Link c v)
+  entry_set : (v : Option ℕ) (s : List ℕ) (xs : List Step) → On g s → Each (InRange g) xs → AllLinks xs → (i : ℕ) → At xs i (Link c v)
       → link_of (carry_all s xs) c ≡ w
   unfolding carry_all
   entry_set v s [] o r l i h = absurd h
@@ -156,24 +146,24 @@ at-whole (suc n) (y ∷ xs) (suc i) x h = at-whole n xs i x h
 
 -- ---- a plan with a LINK among its first n steps
 
-says-link : (d : Decoded) → says_link d ≡ true → (a : ℕ) × (v : Value) × (d ≡ Whole (Link a v))
-says-link (Whole (Data u j w)) h = contradict h refl
-says-link (Whole (Map k j v)) h = contradict h refl
-says-link (Whole (Link a v)) h = (a, v, refl)
-says-link (Whole Fence) h = contradict h refl
-says-link Malformed h = contradict h refl
+says-link : (d : Option Step) → says_link d ≡ true → (a : ℕ) × (v : Option ℕ) × (d ≡ Some (Link a v))
+says-link (Some (Data u j w)) h = contradict h refl
+says-link (Some (Map k j v)) h = contradict h refl
+says-link (Some (Link a v)) h = (a, v, refl)
+says-link (Some Fence) h = contradict h refl
+says-link None h = contradict h refl
 
 -- all words of map k are stored before step n
 abbrev AllStored : Shape → ℕ → ℕ → List Step → Type 0
-AllStored g k n xs = (j : ℕ) → j < map_words g → (i : ℕ) × (v : Value) × (i < n) × At xs i (Map k j v)
+AllStored g k n xs = (j : ℕ) → j < map_words g → (i : ℕ) × (v : Option ℕ) × (i < n) × At xs i (Map k j v)
 
 -- It stores `value` in chunk c's entry; if that is the number of a map, all words of the map are stored too.
 record Relinks (g : Shape) (c n : ℕ) (xs : List Step) : Type 0 where
-  value : Value
+  value : Option ℕ
   place : ℕ
   low : place < n
   there : At xs place (Link c value)
-  alone : (i a : ℕ) (v : Value) → At xs i (Link a v) → word_of v ≡ word_of value
+  alone : (i a : ℕ) (v : Option ℕ) → At xs i (Link a v) → word_of v ≡ word_of value
   words : word_of value < g.m → AllStored g (word_of value) n xs
 
 module _ (kn : Known) (limits : Limits kn.shape) (r : Request) (plan : List ℕ) (n : ℕ) (high : n ≤ whole_steps plan) (l : link_within plan n ≡ true) where
@@ -184,7 +174,7 @@ module _ (kn : Known) (limits : Limits kn.shape) (r : Request) (plan : List ℕ)
     one : Rule1 kn.shape plan
     one = k 1
 
-    link-there : (i : ℕ) × (i < n) × (a : ℕ) × (v : Value) × At xs i (Link a v)
+    link-there : (i : ℕ) × (i < n) × (a : ℕ) × (v : Option ℕ) × At xs i (Link a v)
     link-there =
         let p = link-place plan n l in
         let low : p.0 < n = p.1 in
@@ -212,7 +202,7 @@ module _ (kn : Known) (limits : Limits kn.shape) (r : Request) (plan : List ℕ)
           words = w;
         }
       where
-        value_of : (v w : Value) (a b : ℕ) → Link a v ≡ Link b w → word_of v ≡ word_of w
+        value_of : (v w : Option ℕ) (a b : ℕ) → Link a v ≡ Link b w → word_of v ≡ word_of w
         value_of v w a b e = let q : v ≡ w = cc in ap word_of q
 
     relinks : (r : Request) → Rule3 kn.shape kn.map_free r xs → (m : Bool) → Rule4 r m xs → Rule5 r m xs → Relinks kn.shape (chunk_of r) n xs
@@ -233,16 +223,16 @@ module _ (kn : Known) (limits : Limits kn.shape) (r : Request) (plan : List ℕ)
 
 -- ---- what an acceptance by an index says
 
-accepted-parts : (v : Verdict) (b : Bool) (x : Checked) → if_sound v Denied (cond b (Denied Range) x) ≡ Accepted → (v ≡ Passed) × (b ≡ false) × (x ≡ Accepted)
-accepted-parts Passed false x e = (refl, refl, e)
-accepted-parts Passed true x e = no-denial Range e
-accepted-parts (Refused y) b x e = no-denial y e
+accepted-parts : (v : Result ⊤ Refusal) (b : Bool) (x : Result ⊤ Refusal) → if_sound v Err (cond b (Err Range) x) ≡ Ok tt → (v ≡ Ok tt) × (b ≡ false) × (x ≡ Ok tt)
+accepted-parts (Ok tt) false x e = (refl, refl, e)
+accepted-parts (Ok tt) true x e = no-denial Range e
+accepted-parts (Err y) b x e = no-denial y e
 
-judged-parts : (kn : Known) (r : Request) (plan : List ℕ) → judged kn r plan ≡ Accepted → (good_chunk kn.shape r ≡ true) × (broken_rule kn r plan ≡ 0)
+judged-parts : (kn : Known) (r : Request) (plan : List ℕ) → judged kn r plan ≡ Ok tt → (good_chunk kn.shape r ≡ true) × (broken_rule kn r plan ≡ 0)
 unfolding judged
 judged-parts kn r plan e = at (good_chunk kn.shape r) (good_size kn.shape r) (broken_rule kn r plan) e
   where
-    at : (a b : Bool) (n : ℕ) → cond a (cond b (broken n) (Denied Size)) (Denied Range) ≡ Accepted → (a ≡ true) × (n ≡ 0)
+    at : (a b : Bool) (n : ℕ) → cond a (cond b (broken n) (Err Size)) (Err Range) ≡ Ok tt → (a ≡ true) × (n ≡ 0)
     at true true zero e = (refl, refl)
     at true true (suc n) e = no-denial (BadPlan (suc n)) e
     at true false n e = no-denial Size e
@@ -255,14 +245,14 @@ record Taken (ix : Index) (s : List ℕ) (r : Request) (plan : List ℕ) (n : �
   high : n ≤ whole_steps plan
   rules : KeepsAll (known_in ix s r) r plan
 
-taken : (ix : Index) (s : List ℕ) (r : Request) (plan : List ℕ) (n : ℕ) → carry_answer_by ix s r plan n ≡ Accepted → Taken ix s r plan n
+taken : (ix : Index) (s : List ℕ) (r : Request) (plan : List ℕ) (n : ℕ) → carry_answer_by ix s r plan n ≡ Ok tt → Taken ix s r plan n
 unfolding carry_in
 taken ix s r plan n e =
     let h = ix.shape in
     let kn = known_in ix s r in
     let words = length ix.sets in
     let parts = accepted-parts (chunk_refuses_by ix s (chunk_of r)) (ltb (whole_steps plan) n) (judged kn r plan) e in
-    let on = (admitted-chunk h h words s (Sound h) refl (chunk_of r) (sym (ap (outcome_by h) parts.0))).on in
+    let on = (admitted-chunk h h words s (chunk_of r) (sym (ap (outcome_by h) parts.0))).on in
     let lim = on-limits on in
     let good = judged-parts kn r plan parts.2 in
     record {
@@ -349,31 +339,31 @@ module _ (ix : Index) (s t : List ℕ) (r : Request) (a : AlikeAt (chunk_of r) s
     unfolding chunk_verdict_by
     same_answer = go (trailer_by h s) refl
       where
-        go : (w : Trailer) → trailer_by h s ≡ w → answer t ≡ answer s
-        go (Fits g) e =
+        go : (w : Result Shape Refusal) → trailer_by h s ≡ w → answer t ≡ answer s
+        go (Ok g) e =
             let k = trailer-fits h g s e in
             let l = trailer-fits h g t (same-trailer ∙ e) in
             let o : On h s = subst (λ (x : Shape). On x s) k.1 k.0 in
             let p : On h t = subst (λ (x : Shape). On x t) l.1 l.0 in
             λ i.
-            if_sound (after_trailer (same-trailer i) (cond (same-bad o p i) (Refused (BadLink c)) (enough (length ix.sets)))) refuse (f (same_asked o p i))
-        go (TrailerRefused x) e =
-            let v : List ℕ → Verdict = λ y. entry_verdict h (length ix.sets) y c in
-            ap (λ (w : Trailer). if_sound (after_trailer w (v t)) refuse (f (ltb c h.c && mapped t c))) (same-trailer ∙ e)
-            ∙ ap (λ (w : Trailer). if_sound (after_trailer w (v s)) refuse (f (ltb c h.c && mapped s c))) (sym e)
+            if_sound (after_trailer (same-trailer i) (cond (same-bad o p i) (Err (BadLink c)) (enough (length ix.sets)))) refuse (f (same_asked o p i))
+        go (Err x) e =
+            let v : List ℕ → Result ⊤ Refusal = λ y. entry_verdict h (length ix.sets) y c in
+            ap (λ (w : Result Shape Refusal). if_sound (after_trailer w (v t)) refuse (f (ltb c h.c && mapped t c))) (same-trailer ∙ e)
+            ∙ ap (λ (w : Result Shape Refusal). if_sound (after_trailer w (v s)) refuse (f (ltb c h.c && mapped s c))) (sym e)
 
   -- what is known by the index, where the chunk is mapped or not
   abbrev by : Bool → Known
   by m = known h (in_set (units_in ix.sets)) (in_set (maps_in ix.sets)) m
 
   same-plans : (room : ℕ) → plan_answer_by ix t r room ≡ plan_answer_by ix s r room
-  same-plans room = same_answer NotPlanned (λ m. plan_in (by m) r room)
+  same-plans room = same_answer Err (λ m. plan_in (by m) r room)
 
   -- a refusal leaves the output, whatever would be planned
-  out-by : (v : Verdict) (kn : Known) (out : List ℕ)
-      → written (if_sound v NotPlanned (plan_in kn r (length out))) (plan_of kn r) out ≡ if_sound v (λ x. out) (out_in kn r out)
-  out-by Passed kn out = refl
-  out-by (Refused x) kn out = refl
+  out-by : (v : Result ⊤ Refusal) (kn : Known) (out : List ℕ)
+      → written (if_sound v Err (plan_in kn r (length out))) (plan_of kn r) out ≡ if_sound v (λ x. out) (out_in kn r out)
+  out-by (Ok tt) kn out = refl
+  out-by (Err x) kn out = refl
 
   same-output : (out : List ℕ) → plan_out_by ix t r out ≡ plan_out_by ix s r out
   same-output out =
@@ -382,15 +372,15 @@ module _ (ix : Index) (s t : List ℕ) (r : Request) (a : AlikeAt (chunk_of r) s
 
   module _ (plan : List ℕ) where
     same-checks : checked_by ix t r plan ≡ checked_by ix s r plan
-    same-checks = same_answer Denied (λ m. judged (by m) r plan)
+    same-checks = same_answer Err (λ m. judged (by m) r plan)
 
     module _ (n : ℕ) where
       same-carries : carry_answer_by ix t r plan n ≡ carry_answer_by ix s r plan n
-      same-carries = same_answer Denied (λ m. carry_in (by m) r plan n)
+      same-carries = same_answer Err (λ m. carry_in (by m) r plan n)
 
       -- ---- carried out
 
-      module _ (e : carry_answer_by ix s r plan n ≡ Accepted) where
+      module _ (e : carry_answer_by ix s r plan n ≡ Ok tt) where
         of-s : Taken ix s r plan n
         of-s = taken ix s r plan n e
 
@@ -467,29 +457,29 @@ module _ (ix : Index) (s t : List ℕ) (r : Request) (a : AlikeAt (chunk_of r) s
       same-stored : (q : ℕ) → StoredAlike s t (carry_image_by ix s r plan n) (carry_image_by ix t r plan n) q
       unfolding carried
       same-stored q =
-          subst (λ (x : Checked). StoredAlike s t (carry_image_by ix s r plan n) (left_by x t plan n) q) (sym same-carries) (at (carry_answer_by ix s r plan n) refl)
+          subst (λ (x : Result ⊤ Refusal). StoredAlike s t (carry_image_by ix s r plan n) (left_by x t plan n) q) (sym same-carries) (at (carry_answer_by ix s r plan n) refl)
         where
-          at : (x : Checked) → carry_answer_by ix s r plan n ≡ x → StoredAlike s t (left_by x s plan n) (left_by x t plan n) q
-          at Accepted e = words-alike e q
-          at (Denied x) e = inr (refl, refl)
+          at : (x : Result ⊤ Refusal) → carry_answer_by ix s r plan n ≡ x → StoredAlike s t (left_by x s plan n) (left_by x t plan n) q
+          at (Ok tt) e = words-alike e q
+          at (Err x) e = inr (refl, refl)
 
       -- the sets that an answer leaves
-      abbrev left : List ℕ → Checked → List ℕ
+      abbrev left : List ℕ → Result ⊤ Refusal → List ℕ
       left u x = sets_left x ix.sets u r plan n
 
       same-sets : left t (carry_answer_by ix t r plan n) ≡ left s (carry_answer_by ix s r plan n)
       unfolding carried
       same-sets = ap (left t) same-carries ∙ at (carry_answer_by ix s r plan n) refl
         where
-          linked : carry_answer_by ix s r plan n ≡ Accepted → (b : Bool) → link_within plan n ≡ b
+          linked : carry_answer_by ix s r plan n ≡ Ok tt → (b : Bool) → link_within plan n ≡ b
               → cond b (renewed_sets ix.sets (carried t plan n) (link_of t c) (link_of (carried t plan n) c)) ix.sets
               ≡ cond b (renewed_sets ix.sets (carried s plan n) (link_of s c) (link_of (carried s plan n) c)) ix.sets
           linked e true l = sets-alike e l
           linked e false l = refl
 
-          at : (x : Checked) → carry_answer_by ix s r plan n ≡ x → left t x ≡ left s x
-          at Accepted e = linked e (link_within plan n) refl
-          at (Denied x) e = refl
+          at : (x : Result ⊤ Refusal) → carry_answer_by ix s r plan n ≡ x → left t x ≡ left s x
+          at (Ok tt) e = linked e (link_within plan n) refl
+          at (Err x) e = refl
 
       same_next : next_index ix t r plan n ≡ next_index ix s r plan n
       same_next = ap (index_of ix.shape) same-sets

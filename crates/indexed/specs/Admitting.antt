@@ -1,19 +1,14 @@
 -- What an index holds (02, request 7), and the refusals that an indexed call gives in place of the scanning call's 1 to 6. With an index that is current none of
 -- them is given; what they are otherwise is fixed by docs/DECISIONS.md, 100.
-use Rattle.std.specs.Prelude.{ℕ, ◌*◌, Bool, not, ◌&&◌, cond, List, eqb, ltb}
+use Rattle.std.specs.Prelude.{ℕ, ◌*◌, Bool, not, ◌&&◌, cond, List, eqb, ltb, Result, Ok, Err, ⊤}
 use Rattle.layout.specs.declared.Shape.{Shape}
 use Rattle.layout.specs.declared.Refusal.TheVariants.{Geometry, BadLink, Small}
-use Rattle.layout.specs.declared.Trailer.{Trailer}
-use Rattle.layout.specs.declared.Trailer.TheVariants.{Fits, Refused as TrailerRefused}
 use Rattle.layout.specs.Trailer.{trailer_outcome}
-use Rattle.image.specs.declared.Verdict.{Verdict}
-use Rattle.image.specs.declared.Verdict.TheVariants.{Passed, Refused}
-use Rattle.image.specs.declared.Outcome.{Outcome}
-use Rattle.image.specs.declared.Outcome.TheVariants.{Sound, Refused as OutcomeRefused}
 use Rattle.image.specs.Verdicts.{good_link, after_trailer}
 use Rattle.image.specs.Answers.{if_sound}
 use Rattle.renewal.specs.Renewal.{set_words}
 use Rattle.indexed.specs.declared.HeldShape.{HeldShape}
+use Rattle.layout.specs.declared.Refusal.{Refusal}
 
 -- an index: the shape of an image, and a run of words
 pub record Index : Type 0 where
@@ -37,31 +32,31 @@ same_shape g h =
 -- ---- the refusals
 
 -- rows 1 to 3 of the image's trailer; 3 too where it passes and says another shape than the index
-abbrev pub matched : Shape → Trailer → Trailer
-matched h (Fits g) = cond (same_shape g h) (Fits g) (TrailerRefused Geometry)
-matched h (TrailerRefused r) = TrailerRefused r
+abbrev pub matched : Shape → Result Shape Refusal → Result Shape Refusal
+matched h (Ok g) = cond (same_shape g h) (Ok g) (Err Geometry)
+matched h (Err r) = Err r
 
-unfoldable pub trailer_by : Shape → List ℕ → Trailer
+unfoldable pub trailer_by : Shape → List ℕ → Result Shape Refusal
 trailer_by h s = matched h (trailer_outcome s)
 
 -- 10 "lent output too short": fewer words than the sets have
-unfoldable pub enough : ℕ → Verdict
-enough words = cond (ltb words set_words) (Refused (Small (8 * set_words))) Passed
+unfoldable pub enough : ℕ → Result ⊤ Refusal
+enough words = cond (ltb words set_words) (Err (Small (8 * set_words))) (Ok tt)
 
 -- 4 "entry neither X nor below M", asked of one chunk; a chunk that is not below C has no entry
 unfoldable pub bad_entry : Shape → List ℕ → ℕ → Bool
 bad_entry h s i = ltb i h.c && not (good_link s i)
 
-abbrev pub entry_verdict : Shape → ℕ → List ℕ → ℕ → Verdict
-entry_verdict h words s i = cond (bad_entry h s i) (Refused (BadLink i)) (enough words)
+abbrev pub entry_verdict : Shape → ℕ → List ℕ → ℕ → Result ⊤ Refusal
+entry_verdict h words s i = cond (bad_entry h s i) (Err (BadLink i)) (enough words)
 
 -- for a call on no chunk, and for a call on chunk i, with an index of shape h and so many words
-unfoldable pub verdict_by : Shape → ℕ → List ℕ → Verdict
+unfoldable pub verdict_by : Shape → ℕ → List ℕ → Result ⊤ Refusal
 verdict_by h words s = after_trailer (trailer_by h s) (enough words)
 
-unfoldable pub chunk_verdict_by : Shape → ℕ → List ℕ → ℕ → Verdict
+unfoldable pub chunk_verdict_by : Shape → ℕ → List ℕ → ℕ → Result ⊤ Refusal
 chunk_verdict_by h words s i = after_trailer (trailer_by h s) (entry_verdict h words s i)
 
 -- the refusal, or the shape: `Sound` of an image that is admitted, whose chunks nobody judges
-abbrev pub outcome_by : Shape → Verdict → Outcome
-outcome_by h v = if_sound v OutcomeRefused (Sound h)
+abbrev pub outcome_by : Shape → Result ⊤ Refusal → Result Shape Refusal
+outcome_by h v = if_sound v Err (Ok h)

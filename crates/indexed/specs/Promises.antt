@@ -1,11 +1,9 @@
 -- What holds of the indexed calls with every index, true, stale or made up, and on every image (02, request 7).
-use Rattle.std.specs.Prelude.{ℕ, ◌<◌, ◌≡◌, ◌⊎◌, false, List, length, drop}
+use Rattle.std.specs.Prelude.{ℕ, ◌<◌, ◌≡◌, ◌⊎◌, false, List, length, drop, Err}
 use Rattle.layout.specs.declared.Refusal.{Refusal}
 use Rattle.layout.specs.Layout.{edition_of, trailer_at, shape_of, word_at, link_of, words_of}
 use Rattle.steps.specs.declared.Request.{Request}
 use Rattle.steps.specs.Steps.{chunk_of}
-use Rattle.rules.specs.declared.Checked.TheVariants.{Refused as Denied}
-use Rattle.planner.specs.declared.Planned.TheVariants.{Refused as NotPlanned}
 use Rattle.carry.specs.Carry.{link_within}
 use Rattle.indexed.specs.Admitting.{Index}
 use Rattle.indexed.specs.Calls.{plan_answer_by, plan_out_by, checked_by, carry_answer_by, carry_image_by, next_index}
@@ -13,9 +11,9 @@ use Rattle.indexed.specs.Calls.{plan_answer_by, plan_out_by, checked_by, carry_a
 -- ---- "a refusal still alters nothing lent", and "a refused call gives back the one it took"
 
 pub record Unaltered (ix : Index) (s : List ℕ) (r : Request) : Type 0 where
-  pub output : (out : List ℕ) (x : Refusal) → plan_answer_by ix s r (length out) ≡ NotPlanned x → plan_out_by ix s r out ≡ out
-  pub image : (plan : List ℕ) (n : ℕ) (x : Refusal) → carry_answer_by ix s r plan n ≡ Denied x → carry_image_by ix s r plan n ≡ s
-  pub index : (plan : List ℕ) (n : ℕ) (x : Refusal) → carry_answer_by ix s r plan n ≡ Denied x → next_index ix s r plan n ≡ ix
+  pub output : (out : List ℕ) (x : Refusal) → plan_answer_by ix s r (length out) ≡ Err x → plan_out_by ix s r out ≡ out
+  pub image : (plan : List ℕ) (n : ℕ) (x : Refusal) → carry_answer_by ix s r plan n ≡ Err x → carry_image_by ix s r plan n ≡ s
+  pub index : (plan : List ℕ) (n : ℕ) (x : Refusal) → carry_answer_by ix s r plan n ≡ Err x → next_index ix s r plan n ≡ ix
   -- nor does a carrying out change the index that has not come to LINK
   pub before-link : (plan : List ℕ) (n : ℕ) → link_within plan n ≡ false → next_index ix s r plan n ≡ ix
 

@@ -8,13 +8,14 @@ mod admit;
 mod carrying;
 pub mod lent;
 pub mod opening;
+mod sets;
 pub mod shapes;
 
 const SET_BYTES: u32 = 8 * SET_WORDS as u32;
 
 // The shape that an index holds, as a caller keeps it: any numbers.
 #[repr(C)]
-#[derive(Clone, Copy)]
+#[derive(Clone, Copy, PartialEq)]
 pub struct HeldShape {
     pub edition: u64,
     pub p: u64,

@@ -9,6 +9,7 @@ use lib.ListN.{length, get_or, take, drop, drop_of_length-le}
 use lib.Seq.{drop-cons, drop-drop, take_at, drop_at, length-take-le}
 use borrow.Rule.Slice.PartMut.{put_mid}
 use lib.Dec.{eqb}
+use Rattle.std.specs.List.{FoldsTo}
 use Rattle.search.specs.Search.{member, any}
 use Rattle.search.specs.Sets.{put, with_all, without}
 use Rattle.search.proofs.Taken.{put-in, without-none, without-cons, with_all-none}
@@ -18,7 +19,6 @@ use Rattle.layout.specs.declared.Shape.{Shape}
 use Rattle.layout.specs.Layout.{is_unit, shape_of}
 use Rattle.layout.specs.Shaped.{Shaped, unit_words_of}
 use Rattle.image.specs.Soundness.{leading}
-use Rattle.image.specs.Claims.{held_in}
 use Rattle.image.proofs.Leading.{leading-true, leading-false}
 use Rattle.image.proofs.MapWords.{unit-test, length-units_in}
 use Rattle.image.specs.Loading.{unit_set_words, map_set_words}
@@ -66,71 +66,85 @@ taken_none : (ws : List ℕ) → IsSet ws → taken_out ws [] ≡ ws
 unfolding taken_out
 taken_none ws e = bit_set-ext (without (in_set ws) []) (in_set ws) (length ws) (λ y l. sym (without-none (in_set ws) y)) ∙ sym e
 
+-- how a list of numbers changes a set: `all` of them is `one` after the other
+record Change (all : List ℕ → List ℕ → List ℕ) (one : List ℕ → ℕ → List ℕ) : Type 0 where
+  none : (ws : List ℕ) → IsSet ws → all ws [] ≡ ws
+  cons : (ws : List ℕ) (u : ℕ) (us : List ℕ) → all ws (u ∷ us) ≡ all (one ws u) us
+  made : (ws : List ℕ) (u : ℕ) → IsSet (one ws u)
+
+putting : Change put_in inserted
+unfolding inserted
+putting = record { none = put-none; cons = put-cons; made = λ ws u. made-set (put (in_set ws) u true) (length ws) }
+
+taking : Change taken_out removed
+unfolding removed
+taking = record { none = taken_none; cons = taken-cons; made = λ ws u. made-set (put (in_set ws) u false) (length ws) }
+
+module _ (R : List ℕ → ℕ → List ℕ → Type 0) where
+  module _ (all : List ℕ → List ℕ → List ℕ) (one : List ℕ → ℕ → List ℕ) (h : Change all one) (q : (ws : List ℕ) (u : ℕ) (vs : List ℕ) → R ws u vs → vs ≡ one ws u) where
+    changed : (us ws vs : List ℕ) → IsSet ws → FoldsTo R ws us vs → vs ≡ all ws us
+    changed [] ws vs e f = sym f ∙ sym (h.none ws e)
+    changed (u ∷ us) ws vs e f =
+        let one_more = q ws u f.0 f.1 in
+        changed us f.0 vs (subst IsSet (sym one_more) (h.made ws u)) f.2 ∙ ap (λ (x : List ℕ). all x us) one_more ∙ sym (h.cons ws u us)
+
+  -- a call puts its number in, or takes it out: so do the calls at each of a list
+  pub all_put : ((ws : List ℕ) (u : ℕ) (vs : List ℕ) → R ws u vs → vs ≡ inserted ws u) → (us ws vs : List ℕ) → IsSet ws → FoldsTo R ws us vs → vs ≡ put_in ws us
+  all_put = changed put_in inserted putting
+
+  pub all_taken : ((ws : List ℕ) (u : ℕ) (vs : List ℕ) → R ws u vs → vs ≡ removed ws u) → (us ws vs : List ℕ) → IsSet ws → FoldsTo R ws us vs → vs ≡ taken_out ws us
+  all_taken = changed taken_out removed taking
+
 -- ---- the units of map k, word after word
 
--- how a list of numbers changes a set: `all` of them is `one` after the other
-pub record Change (all : List ℕ → List ℕ → List ℕ) (one : List ℕ → ℕ → List ℕ) : Type 0 where
-  pub none : (ws : List ℕ) → IsSet ws → all ws [] ≡ ws
-  pub cons : (ws : List ℕ) (u : ℕ) (us : List ℕ) → all ws (u ∷ us) ≡ all (one ws u) us
-  pub made : (ws : List ℕ) (u : ℕ) → IsSet (one ws u)
-  pub size : (ws : List ℕ) (u : ℕ) → length (one ws u) ≡ length ws
+-- The first j words of map k were units, and the calls at them made ws of ws₀: what the calls at the rest make of ws, those at all units make of ws₀.
+pub record Walked (R : List ℕ → ℕ → List ℕ → Type 0) (s : List ℕ) (k : ℕ) (ws₀ : List ℕ) (j : ℕ) (ws : List ℕ) : Type 0 where
+  pub rest : (last : List ℕ) → FoldsTo R ws (leading (is_unit (shape_of s)) (drop j (unit_words_of s k))) last → FoldsTo R ws₀ (held_by s k) last
 
-pub putting : Change put_in inserted
-unfolding inserted
-putting = record { none = put-none; cons = put-cons; made = λ ws u. made-set (put (in_set ws) u true) (length ws); size = λ ws u. length-bit_set (put (in_set ws) u true) (length ws) }
-
-pub taking : Change taken_out removed
-unfolding removed
-taking = record { none = taken_none; cons = taken-cons; made = λ ws u. made-set (put (in_set ws) u false) (length ws); size = λ ws u. length-bit_set (put (in_set ws) u false) (length ws) }
-
--- the first j words of map k were units, and the set ws is ws₀ with them
-pub record Walked (all : List ℕ → List ℕ → List ℕ) (s : List ℕ) (k : ℕ) (ws₀ : List ℕ) (j : ℕ) (ws : List ℕ) : Type 0 where
-  pub rest : all ws₀ (held_in s k) ≡ all ws (leading (is_unit (shape_of s)) (drop j (unit_words_of s k)))
-  pub is_set : IsSet ws
-  pub same : length ws ≡ length ws₀
-
-module _ (all : List ℕ → List ℕ → List ℕ) (one : List ℕ → ℕ → List ℕ) (h : Change all one) (s : List ℕ) (g : Shape) (z : Shaped s g) (k : ℕ) (ws₀ : List ℕ) where
+module _ (R : List ℕ → ℕ → List ℕ → Type 0) (s : List ℕ) (g : Shape) (z : Shaped s g) (k : ℕ) (ws₀ : List ℕ) where
   abbrev f : ℕ → Bool
   f = is_unit (shape_of s)
 
   abbrev words : List ℕ
   words = unit_words_of s k
 
+  abbrev Folds : List ℕ → List ℕ → List ℕ → Type 0
+  Folds ws us last = FoldsTo R ws us last
+
   -- no map's number
-  pub walked_none : IsSet ws₀ → g.m ≤ k → ws₀ ≡ all ws₀ (held_by s k)
-  walked_none e l = sym (ap (all ws₀) (held_none s k (subst (λ (q : Shape). q.m ≤ k) z.same l)) ∙ h.none ws₀ e)
+  pub walked_none : g.m ≤ k → FoldsTo R ws₀ (held_by s k) ws₀
+  walked_none l = subst (λ us. Folds ws₀ us ws₀) (sym (held_none s k (subst (λ (q : Shape). q.m ≤ k) z.same l))) refl
 
-  pub walked_start : IsSet ws₀ → Walked all s k ws₀ 0 ws₀
-  walked_start e = record { rest = refl; is_set = e; same = refl }
+  pub walked_start : k < g.m → Walked R s k ws₀ 0 ws₀
+  walked_start l = record { rest = λ last. subst (λ us. Folds ws₀ us last) (sym (held-map s k (subst (λ (q : Shape). k < q.m) z.same l))) }
 
-  module _ (j : ℕ) (ws : List ℕ) (w : Walked all s k ws₀ j ws) where
-    -- the set as it is then, where nothing is left
-    done : k < g.m → leading f (drop j words) ≡ [] → ws ≡ all ws₀ (held_by s k)
-    done l e = sym (ap (all ws₀) (held-map s k (subst (λ (q : Shape). k < q.m) z.same l)) ∙ w.rest ∙ ap (all ws) e ∙ h.none ws w.is_set)
+  module _ (j : ℕ) (ws : List ℕ) (w : Walked R s k ws₀ j ws) where
+    -- nothing is left
+    done : leading f (drop j words) ≡ [] → FoldsTo R ws₀ (held_by s k) ws
+    done e = w.rest ws (subst (λ us. Folds ws us ws) (sym e) refl)
 
-    pub walked_end : k < g.m → g.p ≤ j → ws ≡ all ws₀ (held_by s k)
+    pub walked_end : g.p ≤ j → FoldsTo R ws₀ (held_by s k) ws
     unfolding leading
-    walked_end l b = done l (ap (leading f) (drop_of_length-le words (subst (λ (q : ℕ). q ≤ j) (sym (length-units_in s g k z)) b)))
+    walked_end b = done (ap (leading f) (drop_of_length-le words (subst (λ (q : ℕ). q ≤ j) (sym (length-units_in s g k z)) b)))
 
     module _ (b : j < g.p) (u : ℕ) (q : u ≡ get_or (unit_words_of s k) j 0) (t : Bool) (r : t ≡ is_unit g u) where
       inside : j < length words
       inside = subst (λ (q : ℕ). j < q) (sym (length-units_in s g k z)) b
 
-      pub walked_stop : k < g.m → t ≡ false → ws ≡ all ws₀ (held_by s k)
-      walked_stop l e =
-          done l
+      pub walked_stop : t ≡ false → FoldsTo R ws₀ (held_by s k) ws
+      walked_stop e =
+          done
           (ap (leading f) (drop-cons words j 0 inside) ∙ leading-false f (get_or words j 0) (drop (suc j) words) (unit-test s g k j u t z q r ∙ e))
 
-      pub walked_more : t ≡ true → Walked all s k ws₀ (j + 1) (one ws u)
-      walked_more e = record {
-        rest =
-            w.rest
-            ∙ ap (all ws)
-            (ap (leading f) (drop-cons words j 0 inside) ∙ leading-true f (get_or words j 0) (drop (suc j) words) (unit-test s g k j u t z q r ∙ e))
-            ∙ h.cons ws (get_or words j 0) (leading f (drop (suc j) words))
-            ∙ ap₂ (λ (x i : ℕ). all (one ws x) (leading f (drop i words))) (sym q) (sym (add-one j));
-        is_set = h.made ws u;
-        same = h.size ws u ∙ w.same;
+      pub walked_more : t ≡ true → (vs : List ℕ) → R ws u vs → Walked R s k ws₀ (j + 1) vs
+      walked_more e vs c = record {
+        rest = λ last p.
+            w.rest last
+            (subst (λ us. Folds ws us last)
+            (sym
+            (ap (leading f) (drop-cons words j 0 inside) ∙ leading-true f (get_or words j 0) (drop (suc j) words) (unit-test s g k j u t z q r ∙ e)
+            ∙ ap₂ (λ (x i : ℕ). x ∷ leading f (drop i words)) (sym q) (sym (add-one j))))
+            (vs, c, p));
       }
 
 -- ---- both sets, in one run of words

@@ -1,5 +1,6 @@
 -- The sets of an index (02, request 7: "keep an index of free units and maps, and carry it along"), and what becomes of them when a chunk's entry changes.
-use Rattle.std.specs.Prelude.{ℕ, ◌+◌, cond, List, [], ◌++◌, length, take, drop, ltb}
+use Rattle.std.specs.Borrow.{MutBor}
+use Rattle.std.specs.Prelude.{◌≡◌, ℕ, ◌+◌, cond, List, [], ◌++◌, length, take, drop, ltb}
 use Rattle.search.specs.Sets.{with_all, without}
 use Rattle.bitset.specs.Bits.{bit_set, in_set, inserted, removed}
 use Rattle.layout.specs.Layout.{shape_of}
@@ -29,6 +30,10 @@ put_in ws us = bit_set (with_all (in_set ws) us) (length ws)
 
 unfoldable pub taken_out : List ℕ → List ℕ → List ℕ
 taken_out ws us = bit_set (without (in_set ws) us) (length ws)
+
+-- a call on the words ws with u may leave vs
+abbrev pub Leaves : (MutBor (List ℕ) → ℕ → Unit {0} → MutBor (List ℕ) → Type 0) → List ℕ → ℕ → List ℕ → Type 0
+Leaves post ws u vs = (lent : MutBor (List ℕ)) × (left : MutBor (List ℕ)) × (lent.now ≡ ws) × (left.now ≡ vs) × post lent u tt left
 
 -- The sets where a chunk's entry was `old` and is `new` in the image t: the units and the number of the old map are put in, those of the new one taken out. X is
 -- the number of no map.

@@ -1,62 +1,38 @@
 // The next index: what a chunk held becomes free, and what it holds now does not.
 ghost use Rattle.std.specs.Prelude.{◌≡◌, ◌≤◌, length};
-ghost use Rattle.layout.specs.Shaped.{Shaped};
-ghost use Rattle.renewal.specs.Renewal.{set_words, held_by, put_in, taken_out, renewed_units, renewed_maps, renewed_sets};
+ghost use Rattle.std.specs.List.{FoldsTo};
+ghost use Rattle.renewal.specs.Renewal.{set_words, held_by, Leaves, renewed_units, renewed_maps, renewed_sets};
 
 use crate::SET_WORDS;
 use bitset::{insert, remove};
-use image::UNIT_SET_WORDS;
-use image::maps::unit_word;
-use layout::Shape;
+use image::{Image, UNIT_SET_WORDS};
 use layout::geometry::is_unit;
 
-// Puts the units of map k into a set; where k is no map's number, nothing changes.
-fn put_in(units: &mut [u64], image: &[u8], g: Shape, k: u64)
-    requires { Shaped image.now g }
-    ensures { units.new ≡ put_in units.old (held_by image.now k) }
+// Leaves a set by each unit of map k, one after the other; where k is no map's number, nothing changes.
+fn each_unit<F: Fn(&mut [u64], u64)>(units: &mut [u64], image: &Image, k: u64, change: F)
+    requires { F.IsAlwaysCallable change }
+    ensures { FoldsTo (Leaves (F.post change)) units.old (held_by image.now.bytes.now k) units.new }
 {
-    if g.m as u64 <= k {
+    if image.shape.m as u64 <= k {
         return;
     }
-    let p = g.p as usize;
-    let mut j: usize = 0;
-    while j < p {
-        let u = unit_word(image, g, k as usize, j);
-        if !is_unit(g, u) {
+    for j in 0..image.shape.p as usize {
+        let u = image.unit_word(k as usize, j);
+        if !is_unit(image.shape, u) {
             return;
         }
-        insert(units, u);
-        j += 1;
-    }
-}
-
-// Takes the units of map k out of a set; where k is no map's number, nothing changes.
-fn take_out(units: &mut [u64], image: &[u8], g: Shape, k: u64)
-    requires { Shaped image.now g }
-    ensures { units.new ≡ taken_out units.old (held_by image.now k) }
-{
-    if g.m as u64 <= k {
-        return;
-    }
-    let p = g.p as usize;
-    let mut j: usize = 0;
-    while j < p {
-        let u = unit_word(image, g, k as usize, j);
-        if !is_unit(g, u) {
-            return;
-        }
-        remove(units, u as usize);
-        j += 1;
+        change(units, u);
     }
 }
 
 // The free units once a chunk's entry, which was `old`, is `new`.
-fn renew_units(units: &mut [u64], image: &[u8], g: Shape, old: u64, new: u64)
-    requires { Shaped image.now g }
-    ensures { units.new ≡ renewed_units units.old image.now old new }
+fn renew_units(units: &mut [u64], image: &Image, old: u64, new: u64)
+    ensures { units.new ≡ renewed_units units.old image.now.bytes.now old new }
 {
-    put_in(units, image, g, old);
-    take_out(units, image, g, new);
+    each_unit(units, image, old, |set, u| {
+        insert(set, u);
+    });
+    each_unit(units, image, new, |set, u| remove(set, u as usize));
 }
 
 // The free maps then.
@@ -68,11 +44,10 @@ fn renew_maps(maps: &mut [u64], old: u64, new: u64)
 }
 
 // Both, in the image as it is left.
-pub fn renew(sets: &mut [u64], image: &[u8], g: Shape, old: u64, new: u64)
-    requires shaped { Shaped image.now g }
+pub fn renew(sets: &mut [u64], image: &Image, old: u64, new: u64)
     requires set_words_in_bounds { set_words ≤ length sets.old }
-    ensures { sets.new ≡ renewed_sets sets.old image.now old new }
+    ensures { sets.new ≡ renewed_sets sets.old image.now.bytes.now old new }
 {
-    renew_units(&mut sets[..UNIT_SET_WORDS], image, g, old, new);
+    renew_units(&mut sets[..UNIT_SET_WORDS], image, old, new);
     renew_maps(&mut sets[UNIT_SET_WORDS..SET_WORDS], old, new);
 }

@@ -4,7 +4,7 @@ use Rattle.index.proofs.Index.carry.Goals as goal
 
 pub returns : goal.returns
 returns c =
-    let x = rw c.held_shape-h.ensures at c.carry-checked.ensures in record {
+    let x = rw c.from.ensures at c.carry-answer.ensures in record {
       checked_value = (x.value, λ i. index_of c.args.self.shape (x.sets_after i));
       image_after = x.image_after;
     }

@@ -1,48 +1,24 @@
--- `indexed::lent::plan_write` meets its contract: the refusal first, or the planner's core by the words.
-use Rattle.indexed.proofs.Answering.{units-few, maps-few, inside, not-planned, now-planned}
+-- `indexed::lent::plan_write` meets its contract: the planner's core by the words.
+use Rattle.std.proofs.Common.{Bool, ◌&&◌, ltb, refl, arith}
+use Rattle.image.specs.Soundness.{mapped}
 use Rattle.steps.specs.declared.Request.TheVariants.{Write}
-use lib.Seq.{length-take-le}
-use native.Mathlib.Omega.{arith}
-use mathlib.Core.Path.{refl, sym}
+use Rattle.indexed.specs.Admitting.{shape_from}
+use Rattle.indexed.proofs.Admitting.{admitted-chunk}
+use Rattle.indexed.proofs.Answering.{maps-few, now-planned}
 use Rattle.indexed.proofs.lent.plan_write.Goals as goal
 
-pub slice_bounds-write_on-end : goal.slice_bounds-write_on-end
-slice_bounds-write_on-end c =
-    let a = c.args in
-    let k = inside a.h a.sets.now a.image.now (Write a.chunk a.size) _ refl _ c.admit_chunk-o.ensures _
-    c.in-Sound.is in
-    sym (length-take-le 72 a.sets.now (omega (arith, k.room)))
-
-pub slice_bounds-write_on-end-in-Sound : goal.slice_bounds-write_on-end-in-Sound
-slice_bounds-write_on-end-in-Sound c =
-    let a = c.args in
-    let k = inside a.h a.sets.now a.image.now (Write a.chunk a.size) _ refl _ c.admit_chunk-o.ensures _
-    c.in-Sound.is in
-    omega (arith, k.room)
+pub free_in-requires : goal.free_in-requires
+free_in-requires c = (admitted-chunk (shape_from c.args.h) _ _ _ _ c.in_ok-g.ensures).room
 
 pub write_on-requires : goal.write_on-requires
 write_on-requires c =
-    let a = c.args in
-    let k = inside a.h a.sets.now a.image.now (Write a.chunk a.size) _ refl _ c.admit_chunk-o.ensures _
-    c.in-Sound.is in record {
-      limits = k.shaped.limits;
-      units_bound = (omega (arith, units-few a.sets.now k.room), omega (arith, maps-few a.sets.now k.room));
-    }
+    let k = admitted-chunk (shape_from c.args.h) _ _ _ _ c.in_ok-g.ensures in
+    record { limits = k.shaped.limits; maps_bound = rw c.free_in.ensures.maps (omega (arith, maps-few c.args.sets.now k.room)) }
 
-pub returns-in-Refused : goal.returns-in-Refused
-returns-in-Refused c =
+pub returns : goal.returns
+returns c =
     let a = c.args in
-    let x = not-planned a.h a.sets.now a.image.now (Write a.chunk a.size) _ refl _ c.admit_chunk-o.ensures _
-    c.in-Refused.is a.out.now in record {
-      value = x.0;
-      out_after = x.1;
-    }
-
-pub returns-in-Sound : goal.returns-in-Sound
-returns-in-Sound c =
-    let a = c.args in
-    let x = now-planned a.h a.sets.now a.image.now (Write a.chunk a.size) _ refl _ c.admit_chunk-o.ensures _
-    c.in-Sound.is _ refl a.out.now _ _ (c.write_on.ensures _) in record {
-      value = x.0;
-      out_after = x.1;
-    }
+    let m : Bool = ltb a.chunk c.in_ok-g.g.c && mapped a.image.now a.chunk in
+    let e = now-planned a.h a.sets.now a.image.now (Write a.chunk a.size) _ refl _ c.in_ok-g.ensures m refl a.out.now _ _
+    (rw (c.free_in.ensures.units, c.free_in.ensures.maps) at (c.write_on.ensures m)) in
+    record { value = e.0; out_after = e.1 }

@@ -11,4 +11,4 @@ slice_bounds-renew_units-end-2 c =
 
 pub returns : goal.returns
 returns c =
-    renewed _ c.args.image.now _ _ _ _ c.requires.set_words_in_bounds c.renew_units.ensures c.renew_maps.ensures
+    renewed _ c.args.image.now.bytes.now _ _ _ _ c.requires.set_words_in_bounds c.renew_units.ensures c.renew_maps.ensures
