@@ -1,10 +1,9 @@
 -- Request 5's worked cases: the volume of 272 bytes with its first units reserved.
-use Rattle.std.specs.Prelude.{ℕ, List, [], ◌∷◌, replicate}
+use Rattle.std.specs.Prelude.{ℕ, List, [], ◌∷◌, replicate, Some, None}
 use Rattle.search.specs.Search.{below, from}
 use Rattle.layout.specs.declared.Refusal.TheVariants.{BadMap}
 use Rattle.layout.specs.Layout.{edition2}
 use Rattle.layout.specs.Format.{format_image}
-use Rattle.steps.specs.declared.Value.TheVariants.{Number, Absent}
 use Rattle.steps.specs.declared.Step.{Step}
 use Rattle.steps.specs.declared.Step.TheVariants.{Data, Map, Link, Fence}
 use Rattle.steps.specs.declared.Request.TheVariants.{Write}
@@ -17,8 +16,8 @@ reserving r = format_image (edition2 4 4 5 20 r) (replicate 272 0)
 -- a plan for the first write with its pieces on units u and v, whose map names a and b
 abbrev pub plan_naming : ℕ → ℕ → ℕ → ℕ → List Step
 plan_naming u v a b =
-    Data u 0 0 ∷ Data v 1 0 ∷ Map 0 0 (Number 6144) ∷ Map 0 1 (Number a) ∷ Map 0 2 (Number b) ∷ Map 0 3 Absent ∷ Map 0 4 Absent ∷ Fence
-    ∷ Link 2 (Number 0)
+    Data u 0 0 ∷ Data v 1 0 ∷ Map 0 0 (Some 6144) ∷ Map 0 1 (Some a) ∷ Map 0 2 (Some b) ∷ Map 0 3 None ∷ Map 0 4 None ∷ Fence
+    ∷ Link 2 (Some 0)
     ∷ Fence
     ∷ []
 
@@ -53,7 +52,7 @@ reserved3 =
 -- a write of one byte to chunk 1 on one unit and map 1
 abbrev pub plan_on_one : ℕ → List Step
 plan_on_one u =
-    Data u 0 0 ∷ Map 1 0 (Number 1) ∷ Map 1 1 (Number u) ∷ Map 1 2 Absent ∷ Map 1 3 Absent ∷ Map 1 4 Absent ∷ Fence ∷ Link 1 (Number 1) ∷ Fence ∷ []
+    Data u 0 0 ∷ Map 1 0 (Some 1) ∷ Map 1 1 (Some u) ∷ Map 1 2 None ∷ Map 1 3 None ∷ Map 1 4 None ∷ Fence ∷ Link 1 (Some 1) ∷ Fence ∷ []
 
 -- all reserved but the units of one chunk, "N-P": 9's place does not count the reserved ones
 abbrev pub reserved16 : List Case

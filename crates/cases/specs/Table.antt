@@ -1,6 +1,6 @@
 -- Document 01's worked cases of the 224-byte volume, 'The 64 KB volume worked through', and its 'How a map comes to lie', as one table. Each row asks the
 -- definitions that the promises cite. The questions are asked of a volume, so that the tables of requests 4 and 5 (Second.antt, Reserved.antt) ask them too.
-use Rattle.std.specs.Prelude.{ℕ, ◌+◌, ◌*◌, ◌%◌, ◌≡◌, Bool, true, false, List, [], ◌∷◌, ◌++◌, eqb, length, replicate}
+use Rattle.std.specs.Prelude.{ℕ, ◌+◌, ◌*◌, ◌%◌, ◌≡◌, Bool, true, false, List, [], ◌∷◌, ◌++◌, eqb, length, replicate, Some, None, Result, Ok, Err, ⊤}
 use Rattle.search.specs.Search.{below, from}
 use Rattle.bitset.specs.Bits.{members}
 use Rattle.layout.specs.declared.Refusal.{Refusal}
@@ -8,25 +8,19 @@ use Rattle.layout.specs.declared.Refusal.TheVariants.{Shared, Size, NoRoom}
 use Rattle.layout.specs.Layout.{edition1, map_words, put_word, shape_of}
 use Rattle.layout.specs.Format.{format_image}
 use Rattle.layout.specs.Refusals.{refusal_number, refusal_place, refusal_second}
-use Rattle.image.specs.declared.Verdict.{Verdict}
-use Rattle.image.specs.declared.Verdict.TheVariants.{Passed, Refused as Unsound}
 use Rattle.image.specs.Soundness.{units_of}
 use Rattle.image.specs.Stored.{stored_size}
 use Rattle.image.specs.Verdicts.{first_verdict}
 use Rattle.image.specs.Loading.{loaded}
+use Rattle.image.specs.declared.Loaded.{Loaded}
 use Rattle.access.specs.declared.Piece.{Piece}
-use Rattle.access.specs.declared.Split.TheVariants.{Pieces}
 use Rattle.access.specs.Ranges.{piece_bytes, pieces_of, split_answer}
-use Rattle.steps.specs.declared.Value.TheVariants.{Number, Absent}
 use Rattle.steps.specs.declared.Step.{Step}
 use Rattle.steps.specs.declared.Step.TheVariants.{Data, Map, Link, Fence}
 use Rattle.steps.specs.declared.Request.{Request}
 use Rattle.steps.specs.declared.Request.TheVariants.{Write, Discard}
 use Rattle.steps.specs.Steps.{step_bytes, encode_all}
-use Rattle.rules.specs.declared.Checked.{Checked}
-use Rattle.rules.specs.declared.Checked.TheVariants.{Accepted, Refused as Denied}
 use Rattle.rules.specs.Rules.{known_of, checked}
-use Rattle.planner.specs.declared.Planned.TheVariants.{Steps, Refused as Unplanned}
 use Rattle.planner.specs.Planner.{plan_of, plan_answer}
 use Rattle.carry.specs.Carry.{carry_image}
 use Rattle.durable.specs.Events.{Volume, Event, holds, after}
@@ -95,18 +89,27 @@ put_words s [] = s
 put_words s (w ∷ ws) = put_words (put_word s w.0 w.1) ws
 
 -- the checker's number and place
-abbrev pub numbers_of : Checked → ℕ × ℕ
-numbers_of Accepted = (0, 0)
-numbers_of (Denied x) = (refusal_number x, refusal_place x)
+abbrev pub numbers_of : Result ⊤ Refusal → ℕ × ℕ
+numbers_of (Ok tt) = (0, 0)
+numbers_of (Err x) = (refusal_number x, refusal_place x)
 
 -- the longest plan of the planner: "at most 35", and in edition 2 "k+P+4 steps"
 abbrev pub plan_room : ℕ
 plan_room = step_bytes * 36
 
 -- the number of a verdict: 0 where it passes
-abbrev pub verdict_number : Verdict → ℕ
-verdict_number Passed = 0
-verdict_number (Unsound x) = refusal_number x
+abbrev pub verdict_number : Result ⊤ Refusal → ℕ
+verdict_number (Ok tt) = 0
+verdict_number (Err x) = refusal_number x
+
+-- what load answers: an image with these free units and maps, and with so many reserved units
+abbrev pub HasFree : Result Loaded Refusal → List ℕ → List ℕ → Type 0
+HasFree (Ok l) us ks = (members l.units ≡ us) × (members l.maps ≡ ks)
+HasFree (Err x) us ks = ⊥
+
+abbrev pub HasReserved : Result Loaded Refusal → ℕ → Type 0
+HasReserved (Ok l) k = l.shape.r ≡ k
+HasReserved (Err x) k = ⊥
 
 module _ (start : List ℕ) where
   -- what some requests leave
@@ -120,22 +123,22 @@ module _ (start : List ℕ) where
       (units_of v.image i ≡ us) × (holds v i ≡ us)
 
   abbrev pub Right : Case → Type 0
-  Right (free rs us ks) = (members (loaded (left rs)).units ≡ us) × (members (loaded (left rs)).maps ≡ ks)
-  Right (plans rs r xs) = (plan_answer (left rs) r (step_bytes * length xs) ≡ Steps (length xs)) × (steps_for (left rs) r ≡ xs)
-  Right (refuses r x k) = (plan_answer start r plan_room ≡ Unplanned x) × (checked start r [] ≡ Denied x) × (refusal_number x ≡ k) × (refusal_place x ≡ 0)
-  Right (takes size k) = plan_answer start (Write 0 size) plan_room ≡ Steps (k + map_words (shape_of start) + 3)
+  Right (free rs us ks) = HasFree (loaded (left rs)) us ks
+  Right (plans rs r xs) = (plan_answer (left rs) r (step_bytes * length xs) ≡ Ok (length xs)) × (steps_for (left rs) r ≡ xs)
+  Right (refuses r x k) = (plan_answer start r plan_room ≡ Err x) × (checked start r [] ≡ Err x) × (refusal_number x ≡ k) × (refusal_place x ≡ 0)
+  Right (takes size k) = plan_answer start (Write 0 size) plan_room ≡ Ok (k + map_words (shape_of start) + 3)
   Right (stores rs i size) = stored_size (left rs) i ≡ size
   Right (shows rs i us) = units_of (left rs) i ≡ us
   Right (cuts rs r n i us) = (landed : ℕ → Bool) → ShowsAfter rs r n landed i us
   Right (cuts_so rs r n landed i us) = ShowsAfter rs r n landed i us
   Right (splits rs offset span xs) =
-      (split_answer (left rs) offset span (piece_bytes * length xs) ≡ Pieces (length xs)) × (pieces_of (shape_of (left rs)) offset span ≡ xs)
+      (split_answer (left rs) offset span (piece_bytes * length xs) ≡ Ok (length xs)) × (pieces_of (shape_of (left rs)) offset span ≡ xs)
   Right (unsound rs ws x k i j) =
-      ((loaded (put_words (left rs) ws)).verdict ≡ Unsound x) × (refusal_number x ≡ k) × (refusal_place x ≡ i) × (refusal_second x ≡ j)
+      (loaded (put_words (left rs) ws) ≡ Err x) × (refusal_number x ≡ k) × (refusal_place x ≡ i) × (refusal_second x ≡ j)
   Right (checks rs r xs k place) = numbers_of (checked (left rs) r (encode_all xs)) ≡ (k, place)
   Right (foreign rs k) = verdict_number (first_verdict (left rs)) ≡ k
-  Right (reserves k) = (loaded start).shape.r ≡ k
-  Right (lacks rs r k) = (plan_answer (left rs) r plan_room ≡ Unplanned (NoRoom k)) × (refusal_number (NoRoom k) ≡ 9) × (refusal_place (NoRoom k) ≡ k)
+  Right (reserves k) = HasReserved (loaded start) k
+  Right (lacks rs r k) = (plan_answer (left rs) r plan_room ≡ Err (NoRoom k)) × (refusal_number (NoRoom k) ≡ 9) × (refusal_place (NoRoom k) ≡ k)
 
   abbrev pub AllRight : List Case → Type 0
   AllRight [] = Unit {0}
@@ -155,22 +158,22 @@ write3 = Write 0 5120
 
 -- their plans
 abbrev pub plan1 : List Step
-plan1 = Data 0 0 0 ∷ Data 1 1 0 ∷ Map 0 0 (Number 0) ∷ Map 0 1 (Number 1) ∷ Map 0 2 Absent ∷ Map 0 3 Absent ∷ Fence ∷ Link 2 (Number 0) ∷ Fence ∷ []
+plan1 = Data 0 0 0 ∷ Data 1 1 0 ∷ Map 0 0 (Some 0) ∷ Map 0 1 (Some 1) ∷ Map 0 2 None ∷ Map 0 3 None ∷ Fence ∷ Link 2 (Some 0) ∷ Fence ∷ []
 
 abbrev pub plan2 : List Step
-plan2 = Data 2 0 0 ∷ Map 1 0 (Number 2) ∷ Map 1 1 Absent ∷ Map 1 2 Absent ∷ Map 1 3 Absent ∷ Fence ∷ Link 0 (Number 1) ∷ Fence ∷ []
+plan2 = Data 2 0 0 ∷ Map 1 0 (Some 2) ∷ Map 1 1 None ∷ Map 1 2 None ∷ Map 1 3 None ∷ Fence ∷ Link 0 (Some 1) ∷ Fence ∷ []
 
 -- the DATA and MAP steps of a plan for the third, on these units
 abbrev pub steps3 : ℕ → ℕ → List Step
-steps3 u w = Data u 0 0 ∷ Data w 1 0 ∷ Map 2 0 (Number u) ∷ Map 2 1 (Number w) ∷ Map 2 2 Absent ∷ Map 2 3 Absent ∷ []
+steps3 u w = Data u 0 0 ∷ Data w 1 0 ∷ Map 2 0 (Some u) ∷ Map 2 1 (Some w) ∷ Map 2 2 None ∷ Map 2 3 None ∷ []
 
 abbrev pub plan3 : List Step
-plan3 = steps3 3 4 ++ (Fence ∷ Link 0 (Number 2) ∷ Fence ∷ [])
+plan3 = steps3 3 4 ++ (Fence ∷ Link 0 (Some 2) ∷ Fence ∷ [])
 
 -- the same on map 4, which is free too, piece 1 first
 abbrev pub other_plan3 : List Step
 other_plan3 =
-    Data 4 1 0 ∷ Data 3 0 0 ∷ Map 4 0 (Number 3) ∷ Map 4 1 (Number 4) ∷ Map 4 2 Absent ∷ Map 4 3 Absent ∷ Fence ∷ Link 0 (Number 4) ∷ Fence ∷ []
+    Data 4 1 0 ∷ Data 3 0 0 ∷ Map 4 0 (Some 3) ∷ Map 4 1 (Some 4) ∷ Map 4 2 None ∷ Map 4 3 None ∷ Fence ∷ Link 0 (Some 4) ∷ Fence ∷ []
 
 abbrev pub table : List Case
 table =
@@ -206,20 +209,20 @@ table =
     ∷ checks [] (Discard 1) [] 0 0
     ∷ checks [] (Discard 1) (Fence ∷ []) 11 5
     -- "LINK before the fence", "No last FENCE": 11, rule 5
-    ∷ checks (write1 ∷ write2 ∷ []) write3 (steps3 3 4 ++ (Link 0 (Number 2) ∷ Fence ∷ [])) 11 5
-    ∷ checks (write1 ∷ write2 ∷ []) write3 (steps3 3 4 ++ (Fence ∷ Link 0 (Number 2) ∷ [])) 11 5
+    ∷ checks (write1 ∷ write2 ∷ []) write3 (steps3 3 4 ++ (Link 0 (Some 2) ∷ Fence ∷ [])) 11 5
+    ∷ checks (write1 ∷ write2 ∷ []) write3 (steps3 3 4 ++ (Fence ∷ Link 0 (Some 2) ∷ [])) 11 5
     -- "Old units counted free for the write that replaces them": 11, rule 2, where the new plan is on unit 2.
-    ∷ checks (write1 ∷ write2 ∷ []) write3 (steps3 2 3 ++ (Fence ∷ Link 0 (Number 2) ∷ Fence ∷ [])) 11 2
+    ∷ checks (write1 ∷ write2 ∷ []) write3 (steps3 2 3 ++ (Fence ∷ Link 0 (Some 2) ∷ Fence ∷ [])) 11 2
     -- "A plan on other free units, accepted until now, gives 11 with rule 2" (02, request 6): units 5 and 4, units 3 and 5, and the lowest two in another order.
-    ∷ checks (write1 ∷ write2 ∷ []) write3 (steps3 5 4 ++ (Fence ∷ Link 0 (Number 2) ∷ Fence ∷ [])) 11 2
-    ∷ checks (write1 ∷ write2 ∷ []) write3 (steps3 3 5 ++ (Fence ∷ Link 0 (Number 2) ∷ Fence ∷ [])) 11 2
-    ∷ checks (write1 ∷ write2 ∷ []) write3 (steps3 4 3 ++ (Fence ∷ Link 0 (Number 2) ∷ Fence ∷ [])) 11 2
+    ∷ checks (write1 ∷ write2 ∷ []) write3 (steps3 5 4 ++ (Fence ∷ Link 0 (Some 2) ∷ Fence ∷ [])) 11 2
+    ∷ checks (write1 ∷ write2 ∷ []) write3 (steps3 3 5 ++ (Fence ∷ Link 0 (Some 2) ∷ Fence ∷ [])) 11 2
+    ∷ checks (write1 ∷ write2 ∷ []) write3 (steps3 4 3 ++ (Fence ∷ Link 0 (Some 2) ∷ Fence ∷ [])) 11 2
     -- "The choice of map stays free.", and so does the order of the DATA steps.
     ∷ checks (write1 ∷ write2 ∷ []) write3 plan3 0 0
     ∷ checks (write1 ∷ write2 ∷ []) write3 other_plan3 0 0
     -- "dead maps leak units": map 1, which no chunk names any more, still says unit 2. That unit is free above, and the next write takes it.
     ∷ plans (write1 ∷ write2 ∷ write3 ∷ []) (Write 3 1)
-    (Data 2 0 0 ∷ Map 1 0 (Number 2) ∷ Map 1 1 Absent ∷ Map 1 2 Absent ∷ Map 1 3 Absent ∷ Fence ∷ Link 3 (Number 1) ∷ Fence ∷ [])
+    (Data 2 0 0 ∷ Map 1 0 (Some 2) ∷ Map 1 1 None ∷ Map 1 2 None ∷ Map 1 3 None ∷ Fence ∷ Link 3 (Some 1) ∷ Fence ∷ [])
     -- "On a double claim, letting the later chunk win": unit 1 in the maps of chunks 2 and 0
     ∷ unsound (write1 ∷ write2 ∷ []) ((8, 1) ∷ []) (Shared 0 2) 6 0 2
     ∷ []

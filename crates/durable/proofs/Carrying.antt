@@ -1,4 +1,5 @@
 -- Where all of the first n steps landed, the image is what carrying out n steps leaves, and a LINK landed where one is among them.
+use Rattle.std.specs.Prelude.{Option, Some, None, Result, Ok, Err, ⊤}
 use Prim.Native.Nat.{ℕ, zero, suc, ◌+◌, ◌≤◌, ◌<◌}
 use mathlib.Core.Path.{◌≡◌, refl, ap, ◌∙◌}
 use mathlib.Core.Logic.{⊎_elim}
@@ -13,12 +14,8 @@ use Rattle.search.proofs.Ranges.{any_below, any-below-intro}
 use Rattle.layout.specs.declared.Shape.{Shape}
 use Rattle.steps.specs.declared.Step.{Step}
 use Rattle.steps.specs.declared.Step.TheVariants.{Data, Map, Link, Fence}
-use Rattle.steps.specs.declared.Decoded.{Decoded}
-use Rattle.steps.specs.declared.Decoded.TheVariants.{Whole, Malformed}
 use Rattle.steps.specs.Steps.{whole_steps, decode_at, steps_append, steps_of}
 use Rattle.steps.proofs.Rest.{rest, rest-start, rest-next, rest_end}
-use Rattle.rules.specs.declared.Checked.{Checked}
-use Rattle.rules.specs.declared.Checked.TheVariants.{Accepted, Refused}
 use Rattle.rules.specs.Rules.{whole_in_range, rule1}
 use Rattle.carry.specs.Carry.{carry_all, carried, says_link, link_within, carry_answer, left_by, carry_image}
 use Rattle.carry.proofs.Turns.{step_in}
@@ -26,6 +23,7 @@ use Rattle.carry.proofs.Linked.{link-place, place-link}
 use Rattle.durable.specs.Events.{Volume, Event, store, accepted, goes_ahead, lands, settle, link_lands, after}
 use Rattle.durable.proofs.Settle.{next, settle-nil, settle-cons}
 use Rattle.durable.proofs.Fences.{lands-not}
+use Rattle.layout.specs.declared.Refusal.{Refusal}
 
 module _ {A : Type 0} (e : Event A) where
   stays_put : (i : ℕ) (xs : List Step) (v : Volume A) → ((m : ℕ) → i ≤ m → m < i + length xs → lands e m ≡ false) → (settle e i xs v).image ≡ v.image
@@ -57,20 +55,20 @@ module _ {A : Type 0} (e : Event A) where
   unfolding after goes_ahead
   as-carry v h = go (carry_answer v.image e.request e.plan e.count)
     where
-      go : (a : Checked) → (cond (accepted a) (settle e 0 (steps_of e.plan) v) v).image ≡ left_by a v.image e.plan e.count
-      go Accepted = carried-out v h
-      go (Refused x) = refl
+      go : (a : Result ⊤ Refusal) → (cond (accepted a) (settle e 0 (steps_of e.plan) v) v).image ≡ left_by a v.image e.plan e.count
+      go (Ok tt) = carried-out v h
+      go (Err x) = refl
 
   -- ---- the LINK, of a plan that keeps rule 1: its steps stand at the places of their bytes
 
-  first-link : (g : Shape) (i : ℕ) (d : Decoded) (xs : List Step) → whole_in_range g d ≡ true
+  first-link : (g : Shape) (i : ℕ) (d : Option Step) (xs : List Step) → whole_in_range g d ≡ true
       → link_lands e i (steps_append d xs) ≡ (says_link d && lands e i || link_lands e (suc i) xs)
   unfolding link_lands
-  first-link g i (Whole (Data u j w)) xs h = refl
-  first-link g i (Whole (Map k j v)) xs h = refl
-  first-link g i (Whole (Link c v)) xs h = refl
-  first-link g i (Whole Fence) xs h = refl
-  first-link g i Malformed xs h = contradict h refl
+  first-link g i (Some (Data u j w)) xs h = refl
+  first-link g i (Some (Map k j v)) xs h = refl
+  first-link g i (Some (Link c v)) xs h = refl
+  first-link g i (Some Fence) xs h = refl
+  first-link g i None xs h = contradict h refl
 
   module _ (g : Shape) (keeps : rule1 g e.plan ≡ true) where
     -- step i is a LINK, and landed

@@ -1,4 +1,5 @@
 -- One event: what the invariant of demand 3 is, that the event keeps it, and that every chunk then holds what the ledger's entry for the event says.
+use Rattle.std.specs.Prelude.{Some, Result, Ok, Err, ⊤}
 use Prim.Native.Nat.{ℕ, ◌≤◌, ◌<◌}
 use mathlib.Core.Path.{◌≡◌, refl, sym, ap, ◌∙◌, subst}
 use mathlib.Core.Logic.{◌⊎◌, inl, inr, ◌≢◌}
@@ -16,11 +17,8 @@ use Rattle.image.specs.Free.{free_units}
 use Rattle.image.proofs.Order.{Orderly, orderly, orderly-tested}
 use Rattle.image.proofs.Wording.{sound-shape, sound-tested, trailed-sound}
 use Rattle.steps.specs.declared.Step.{Step}
-use Rattle.steps.specs.declared.Decoded.TheVariants.{Whole}
 use Rattle.steps.specs.Steps.{decode_at, steps_of, whole_steps, chunk_of}
 use Rattle.steps.specs.Encodable.{Each}
-use Rattle.rules.specs.declared.Checked.{Checked}
-use Rattle.rules.specs.declared.Checked.TheVariants.{Accepted, Refused}
 use Rattle.rules.specs.Rules.{rule1, checked}
 use Rattle.rules.proofs.Accepting.{Passed, accepted-of}
 use Rattle.rules.proofs.Dealing.{dealt-units}
@@ -33,6 +31,7 @@ use Rattle.durable.specs.LoadsBack.{new_units}
 use Rattle.rules.proofs.StepLaws.{InRange, each-in-range}
 use Rattle.durable.proofs.Settle.{settle-trailer}
 use Rattle.durable.proofs.Requests.{Settled, settled-any}
+use Rattle.layout.specs.declared.Refusal.{Refusal}
 
 -- ---- the invariant
 
@@ -55,14 +54,14 @@ intact-sound g s d =
 
 -- ---- an accepted plan
 
-pub is-accepted : (a : Checked) → accepted a ≡ true → a ≡ Accepted
-is-accepted Accepted h = refl
-is-accepted (Refused x) h = contradict h refl
+pub is-accepted : (a : Result ⊤ Refusal) → accepted a ≡ true → a ≡ Ok tt
+is-accepted (Ok tt) h = refl
+is-accepted (Err x) h = contradict h refl
 
 -- a plan that keeps rule 1 has all its whole steps
 all-steps : (g : Shape) (plan : List ℕ) → rule1 g plan ≡ true → (i : ℕ) → i < whole_steps plan → i < length (steps_of plan)
 all-steps g plan h i b =
-    let w : (j : ℕ) → j < whole_steps plan → (x : Step) × (decode_at plan j ≡ Whole x) = λ j l. let s = (rule1-told g plan h).steps j l in (s.0, s.1) in
+    let w : (j : ℕ) → j < whole_steps plan → (x : Step) × (decode_at plan j ≡ Some x) = λ j l. let s = (rule1-told g plan h).steps j l in (s.0, s.1) in
     let f = w i b in
     at-below (steps_of plan) i f.0 (step-there plan w i f.0 b f.1)
 
@@ -124,7 +123,7 @@ module _ {A : Type 0} (v : Volume A) (e : Event A) where
   outcome-refused h = cond-false (goes_ahead v.image e) ended refused h
 
   -- an accepted plan with n all its steps is finished
-  module _ (a : checked v.image e.request e.plan ≡ Accepted) (c : complete e ≡ true) where
+  module _ (a : checked v.image e.request e.plan ≡ Ok tt) (c : complete e ≡ true) where
     whole-ahead : goes_ahead v.image e ≡ true
     unfolding goes_ahead
     whole-ahead =
@@ -160,7 +159,7 @@ module _ {A : Type 0} (g : Shape) (v : Volume A) (e : Event A) (d : Intact g v.i
   -- ---- a plan that goes ahead
 
   module _ (h : goes_ahead s e ≡ true) where
-    accepts : (checked s e.request e.plan ≡ Accepted) × (e.count ≤ whole_steps e.plan)
+    accepts : (checked s e.request e.plan ≡ Ok tt) × (e.count ≤ whole_steps e.plan)
     unfolding goes_ahead
     accepts = answer-accepted s e.request e.plan e.count (is-accepted (carry_answer s e.request e.plan e.count) h)
 

@@ -1,4 +1,5 @@
 -- The LINK steps of an event, chunk by chunk: where none of a chunk landed its entry stays, and where one landed it is the word that they store.
+use Rattle.std.specs.Prelude.{Option}
 use Prim.Native.Nat.{ℕ, suc, ◌<◌}
 use mathlib.Core.Path.{◌≡◌, refl, sym, ap, ◌∙◌}
 use mathlib.Core.Logic.{◌⊎◌, inl, inr, ◌≢◌}
@@ -11,7 +12,6 @@ use Rattle.layout.specs.Layout.{word_at, map_word_place}
 use Rattle.search.proofs.Bools.{contradict, either, is_false, and_left, and_right, and_intro, or-false-left, or-false-right, or_cases}
 use Rattle.layout.specs.Shaped.{On}
 use Rattle.layout.proofs.Place.{place-past}
-use Rattle.steps.specs.declared.Value.{Value}
 use Rattle.steps.specs.declared.Step.{Step}
 use Rattle.steps.specs.declared.Step.TheVariants.{Data, Map, Link, Fence}
 use Rattle.steps.specs.Encodable.{Each}
@@ -60,7 +60,7 @@ module _ {A : Type 0} (e : Event A) (g : Shape) (q : ℕ) (b : q < g.c) where
   at_next i x xs v = ap (λ (w : Volume A). word_at w.image q) (settle-cons e i x xs v)
 
   -- a LINK that is of another chunk, or did not land, leaves the entry
-  quiet-link : (c i : ℕ) (y : Value) (s : List ℕ) → On g s → (eqb c q && lands e i) ≡ false → word_at (store (lands e i) (Link c y) s) q ≡ word_at s q
+  quiet-link : (c i : ℕ) (y : Option ℕ) (s : List ℕ) → On g s → (eqb c q && lands e i) ≡ false → word_at (store (lands e i) (Link c y) s) q ≡ word_at s q
   quiet-link c i y s o h = go (either (eqb c q))
     where
       go : (eqb c q ≡ true) ⊎ (eqb c q ≡ false) → word_at (store (lands e i) (Link c y) s) q ≡ word_at s q
@@ -92,7 +92,7 @@ module _ {A : Type 0} (e : Event A) (g : Shape) (q : ℕ) (b : q < g.c) where
       ∙ store-miss g v.image o (lands e i) Fence q tt
 
   module _ (w : ℕ) where
-    stored-link : (c : ℕ) (y : Value) (s : List ℕ) → On g s → InRange g (Link c y) → Links q w (Link c y) → c ≡ q → word_at (store true (Link c y) s) q ≡ w
+    stored-link : (c : ℕ) (y : Option ℕ) (s : List ℕ) → On g s → InRange g (Link c y) → Links q w (Link c y) → c ≡ q → word_at (store true (Link c y) s) q ≡ w
     stored-link c y s o r l p = ap (word_at (store true (Link c y) s)) (sym p) ∙ carried-link g s o c y r ∙ l p
 
     -- once the entry is w, a step that stores w there or misses it leaves it so

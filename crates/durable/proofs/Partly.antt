@@ -1,5 +1,6 @@
 -- Carrying out the first n steps of an accepted plan is an event in which those steps land and no other: what it leaves of the named maps and of each
 -- chunk's entry and units, and what is free then.
+use Rattle.std.specs.Prelude.{Ok}
 use Prim.Native.Nat.{ℕ, ◌≤◌, ◌<◌}
 use native.Mathlib.Omega.{arith}
 use mathlib.Core.Path.{◌≡◌, refl, sym, ap, ◌∙◌, subst}
@@ -25,7 +26,6 @@ use Rattle.image.proofs.Freed.{freed-unit, freed-map}
 use Rattle.image.proofs.Theorems.{sound-loads}
 use Rattle.steps.specs.declared.Request.{Request}
 use Rattle.steps.specs.Steps.{steps_of, whole_steps, chunk_of}
-use Rattle.rules.specs.declared.Checked.TheVariants.{Accepted}
 use Rattle.rules.proofs.Accepting.{Passed, accepted-of}
 use Rattle.rules.proofs.Dealing.{dealt-units}
 use Rattle.carry.specs.Carry.{link_within, carry_answer, carry_image}
@@ -42,7 +42,7 @@ put_back true m h = not_of_false m (h refl)
 put_back false true h = refl
 put_back false false h = refl
 
-module _ (g : Shape) (s : List ℕ) (r : Request) (plan : List ℕ) (n : ℕ) (z : Sound g s) (a : carry_answer s r plan n ≡ Accepted) where
+module _ (g : Shape) (s : List ℕ) (r : Request) (plan : List ℕ) (n : ℕ) (z : Sound g s) (a : carry_answer s r plan n ≡ Ok tt) where
   -- the volume and the event: what the units hold is of no account here
   abbrev v : Volume ℕ
   v = record { image = s; content = λ u. u }

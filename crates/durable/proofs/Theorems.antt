@@ -1,5 +1,6 @@
 -- The theorems of this crate that a reader wants: demand 3, that events which finish exist, and that what is written loads back. `kept-from-sound`, the
 -- statement from any sound volume, stands in History.antt.
+use Rattle.std.specs.Prelude.{Ok}
 use mathlib.Core.Path.{◌≡◌, refl, sym, ap, ap₂, ◌∙◌, subst}
 use borrow.Author.Tests.{eq-eqb}
 use Prim.Native.Nat.{ℕ, ◌≤◌}
@@ -24,7 +25,6 @@ use Rattle.steps.specs.declared.Request.{Request}
 use Rattle.steps.specs.declared.Request.TheVariants.{Write, Discard}
 use Rattle.steps.specs.Steps.{whole_steps, chunk_of, need_of, encode_all}
 use Rattle.steps.proofs.Codec.{whole-encoded}
-use Rattle.rules.specs.declared.Checked.TheVariants.{Accepted}
 use Rattle.rules.specs.Rules.{known_of, checked, plan_map}
 use Rattle.rules.specs.Reading.{GoodRequest}
 use Rattle.rules.proofs.Good.{chunk-tested, size-tested}
@@ -67,7 +67,7 @@ good-here g s r z k = subst (λ (q : Shape). GoodRequest q r) (sym (sound-shape 
 
 own-accepted :
     (g : Shape) (s : List ℕ) (r : Request) → Sound g s → GoodRequest g r → need_of r ≤ length (free_units s)
-    → checked s r (encode_all (plan_of (known_of s r) r)) ≡ Accepted
+    → checked s r (encode_all (plan_of (known_of s r) r)) ≡ Ok tt
 own-accepted g s r z k h =
     planned-accepted s r (sound-tested g s z) (chunk-tested (shape_of s) r (good-here g s r z k)) (size-tested (shape_of s) r (good-here g s r z k)) h
 

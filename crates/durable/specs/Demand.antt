@@ -1,12 +1,10 @@
 -- Demand 3, one statement over every list of events: what holds of the volume that the list leaves, and of each event in it.
-use Rattle.std.specs.Prelude.{ℕ, ◌<◌, ◌≡◌, Bool, true, false, cond, List, [], ◌∷◌, ◌++◌, length}
+use Rattle.std.specs.Prelude.{ℕ, ◌<◌, ◌≡◌, Bool, true, false, cond, List, [], ◌∷◌, ◌++◌, length, Ok}
 use Rattle.words.specs.Words.{Bytes}
 use Rattle.layout.specs.declared.Shape.{Shape}
-use Rattle.layout.specs.declared.Formatted.TheVariants.{Done}
 use Rattle.layout.specs.Layout.{shape_of}
 use Rattle.layout.specs.Format.{format_answer, format_image}
 use Rattle.image.specs.Soundness.{NamesUnit, Sound}
-use Rattle.repair.specs.declared.Repaired.TheVariants.{Unlinked}
 use Rattle.repair.specs.Repair.{repair_answer, repair_image}
 use Rattle.steps.specs.Steps.{chunk_of}
 use Rattle.carry.specs.Carry.{carry_image}
@@ -65,7 +63,7 @@ KeptFromSound =
 -- nothing" in the ledger.
 abbrev pub Demand : Type 1
 Demand =
-    (A : Type 0) (g : Shape) (buffer : List ℕ) (content : ℕ → A) (es : List (Event A)) → format_answer g buffer ≡ Done
+    (A : Type 0) (g : Shape) (buffer : List ℕ) (content : ℕ → A) (es : List (Event A)) → format_answer g buffer ≡ Ok tt
     → Kept g (record { image = format_image g buffer; content = content }) (λ i. []) es
 
 -- After a repair (02, request 3): "Demand 3 and its ledger then start from the repaired image once it is wholly written back and fenced, a chunk with no
@@ -73,6 +71,6 @@ Demand =
 -- covered": the list of events begins on the image that `repair` leaves, all of it on the disk.
 abbrev pub DemandAfterRepair : Type 1
 DemandAfterRepair =
-    (A : Type 0) (s out : List ℕ) (n : ℕ) (content : ℕ → A) (es : List (Event A)) → Bytes s → repair_answer s (length out) ≡ Unlinked n
+    (A : Type 0) (s out : List ℕ) (n : ℕ) (content : ℕ → A) (es : List (Event A)) → Bytes s → repair_answer s (length out) ≡ Ok n
     → Kept (shape_of s) (record { image = repair_image s (length out); content = content })
     (holds (record { image = repair_image s (length out); content = content })) es

