@@ -1,4 +1,5 @@
 -- Laws of the words that load leaves in its output: the answers by what the code finds.
+use Rattle.std.specs.Prelude.{Result, Ok, Err}
 use Prim.Native.Nat.{ℕ, ◌≤◌, ◌<◌}
 use mathlib.Core.Path.{◌≡◌, refl, ap, ◌∙◌}
 use mathlib.Core.List.{List, ◌++◌}
@@ -11,8 +12,6 @@ use Rattle.bitset.proofs.BitSets.{length-bit_set}
 use Rattle.layout.specs.declared.Shape.{Shape}
 use Rattle.layout.specs.declared.Refusal.{Refusal}
 use Rattle.layout.specs.declared.Refusal.TheVariants.{Small}
-use Rattle.image.specs.declared.Outcome.{Outcome}
-use Rattle.image.specs.declared.Outcome.TheVariants.{Sound, Refused}
 use Rattle.image.specs.Free.{free_unit, free_map}
 use Rattle.image.specs.Loading.{unit_set_words, map_set_words}
 use Rattle.image.specs.Outcomes.{LoadedInto}
@@ -23,14 +22,14 @@ use Rattle.answers.specs.Loading.{load_words, shape_words, load_answer, load_out
 
 -- ---- what load answers for C, by what load found
 
-module _ (s : List ℕ) (o : Outcome) (us ms : List ℕ) (e : LoadedInto s o us ms) (out : List ℕ) (a : Answer) where
+module _ (s : List ℕ) (o : Result Shape Refusal) (us ms : List ℕ) (e : LoadedInto s o us ms) (out : List ℕ) (a : Answer) where
   abbrev Leaves : List ℕ → Type 0
   Leaves after = (a ≡ load_answer s (length out)) × (after ≡ load_out s out)
 
-  pub load-refused : (r : Refusal) → o ≡ Refused r → a ≡ refused r → Leaves out
+  pub load-refused : (r : Refusal) → o ≡ Err r → a ≡ refused r → Leaves out
   load-refused r h ea = rw (outcome-refused s o e.right r h) (ea, refl)
 
-  module _ (g : Shape) (h : o ≡ Sound g) where
+  module _ (g : Shape) (h : o ≡ Ok g) where
     pub load-small : length out < load_words → a ≡ refused (Small 648) → Leaves out
     load-small b ea = rw ((outcome-passed s o e.right g h).0, lt-ltb (length out) load_words b) (ea, refl)
 

@@ -6,8 +6,7 @@ ghost use Rattle.answers.specs.Loading.{load_words, shape_words, load_answer, lo
 
 use crate::Answer;
 use crate::numbers::{given, refused};
-use image::{MAP_SET_WORDS, Outcome, UNIT_SET_WORDS};
-use indexed::opening::put_words;
+use image::{MAP_SET_WORDS, UNIT_SET_WORDS};
 use layout::{Refusal, Shape};
 
 // P, C, M and N, and where the two sets begin and end in the output.
@@ -37,8 +36,8 @@ fn put_loaded(out: &mut [u64], g: Shape, units: &[u64], maps: &[u64])
     ensures { out.new ≡ sets out.old 0 (shape_words g ++ (units.now ++ maps.now)) }
 {
     put_shape(out, g);
-    put_words(out, UNITS_AT, units);
-    put_words(out, MAPS_AT, maps);
+    out[UNITS_AT..MAPS_AT].copy_from_slice(units);
+    out[MAPS_AT..LOAD_WORDS].copy_from_slice(maps);
 }
 
 // Loads an image into a lent output of at least 81 words, and answers how many units are reserved.
@@ -50,8 +49,8 @@ pub fn load(image: &[u8], out: &mut [u64]) -> Answer
     let mut maps = [0u64; MAP_SET_WORDS];
     let o = loader::load::load_into(image, &mut units, &mut maps);
     match o {
-        Outcome::Refused(r) => refused(r),
-        Outcome::Sound(g) => {
+        Err(r) => refused(r),
+        Ok(g) => {
             if out.len() < LOAD_WORDS {
                 return refused(Refusal::Small(LOAD_BYTES));
             }

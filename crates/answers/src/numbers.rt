@@ -1,20 +1,14 @@
 // Answers as numbers.
-ghost use Rattle.std.specs.Prelude.{◌≡◌, ℕ, ◌≤◌, List};
+ghost use Rattle.std.specs.Prelude.{◌≡◌, ℕ, ◌≤◌, List, IfOk};
 ghost use Rattle.image.specs.Loading.{loaded};
 ghost use Rattle.image.specs.Outcomes.{outcome};
 ghost use Rattle.answers.specs.Numbers;
 
 use crate::{Answer, Opened, ReportAnswer, ShapeAnswer};
-use access::{Access, Held, Split, Status, Stored};
-use convert::Converted;
-use image::{Outcome, Verdict};
+use access::{Access, Extent};
 use indexed::HeldShape;
-use indexed::shapes::held_shape;
-use layout::{Formatted, Refusal, refusals};
-use planner::Planned;
-use repair::Repaired;
-use report::{Alarm, Reported};
-use rules::Checked;
+use layout::{Refusal, Shape, refusals};
+use report::{Alarm, Report};
 
 // An answer with its value and extent.
 pub fn given(value: u64, extent: u64) -> Answer
@@ -45,119 +39,73 @@ pub fn refused(r: Refusal) -> Answer
     }
 }
 
-pub fn formatted(x: Formatted) -> Answer
-    ensures { result ≡ Numbers.formatted_answer x }
+// An answer with no value.
+pub fn done(x: Result<(), Refusal>) -> Answer
+    ensures { result ≡ Numbers.done_answer x }
 {
     match x {
-        Formatted::Done => given(0, 0),
-        Formatted::Refused(r) => refused(r),
+        Ok(()) => given(0, 0),
+        Err(why) => refused(why),
     }
 }
 
-pub fn checked(x: Checked) -> Answer
-    ensures { result ≡ Numbers.checked_answer x }
+// An answer of one number.
+pub fn counted(x: Result<u32, Refusal>) -> Answer
+    ensures { result ≡ Numbers.counted_answer x }
 {
     match x {
-        Checked::Accepted => given(0, 0),
-        Checked::Refused(r) => refused(r),
+        Ok(n) => given(n as u64, 0),
+        Err(r) => refused(r),
     }
 }
 
-pub fn split(x: Split) -> Answer
-    ensures { result ≡ Numbers.split_answers x }
+// As it is: the same of a size, for a generic over `Into<u64>` promises what its bound's ghost member says, and each of its seven callers would have to open that.
+pub fn stored(x: Result<u64, Refusal>) -> Answer
+    ensures { result ≡ Numbers.counted_answer x }
 {
     match x {
-        Split::Pieces(n) => given(n as u64, 0),
-        Split::Refused(r) => refused(r),
+        Ok(n) => given(n, 0),
+        Err(r) => refused(r),
     }
 }
 
-pub fn planned(x: Planned) -> Answer
-    ensures { result ≡ Numbers.planned_answer x }
-{
-    match x {
-        Planned::Steps(n) => given(n as u64, 0),
-        Planned::Refused(r) => refused(r),
-    }
-}
-
-pub fn repaired(x: Repaired) -> Answer
-    ensures { result ≡ Numbers.repaired_answer x }
-{
-    match x {
-        Repaired::Unlinked(n) => given(n as u64, 0),
-        Repaired::Refused(r) => refused(r),
-    }
-}
-
-pub fn converted(x: Converted) -> Answer
-    ensures { result ≡ Numbers.converted_answer x }
-{
-    match x {
-        Converted::Bytes(n) => given(n as u64, 0),
-        Converted::Refused(r) => refused(r),
-    }
-}
-
-pub fn access(x: Access) -> Answer
+pub fn access(x: Result<Access, Refusal>) -> Answer
     ensures { result ≡ Numbers.access_answers x }
 {
     match x {
-        Access::Nothing => given(0, 0),
-        Access::Zeros => given(1, 0),
-        Access::Chunk => given(2, 0),
-        Access::Refused(r) => refused(r),
+        Ok(Access::Nothing) => given(0, 0),
+        Ok(Access::Zeros) => given(1, 0),
+        Ok(Access::Chunk) => given(2, 0),
+        Err(r) => refused(r),
     }
 }
 
-pub fn held(x: Held) -> Answer
-    requires { x.extent.start ≤ x.extent.end }
+pub fn held(x: Result<Extent, Refusal>) -> Answer
+    requires { IfOk x (λ e. e.start ≤ e.end) }
     ensures { result ≡ Numbers.held_answer x }
 {
-    let e = x.extent;
-    let start = e.start;
-    let end = e.end;
-    let status = x.status;
-    match status {
-        Status::Answered => given(start as u64, (end - start) as u64),
-        Status::Refused(r) => refused(r),
-    }
-}
-
-pub fn stored(x: Stored) -> Answer
-    ensures { result ≡ Numbers.stored_answer x }
-{
     match x {
-        Stored::Size(n) => given(n, 0),
-        Stored::Refused(r) => refused(r),
+        Ok(e) => given(e.start as u64, (e.end - e.start) as u64),
+        Err(r) => refused(r),
     }
 }
 
-pub fn alarm(x: Alarm) -> Answer
+pub fn alarm(x: Result<Alarm, Refusal>) -> Answer
     ensures { result ≡ Numbers.alarm_answers x }
 {
     match x {
-        Alarm::Silent => given(0, 0),
-        Alarm::Sounds => given(1, 0),
-        Alarm::Refused(r) => refused(r),
-    }
-}
-
-fn verdict(x: Verdict) -> Answer
-    ensures { result ≡ Numbers.verdict_answer x }
-{
-    match x {
-        Verdict::Passed => given(0, 0),
-        Verdict::Refused(r) => refused(r),
+        Ok(Alarm::Silent) => given(0, 0),
+        Ok(Alarm::Sounds) => given(1, 0),
+        Err(r) => refused(r),
     }
 }
 
 // The shape of a sound image beside number 0; of any other the refusal's numbers, and 0 for the shape's.
-pub fn shape(x: Outcome) -> ShapeAnswer
+pub fn shape(x: Result<Shape, Refusal>) -> ShapeAnswer
     ensures { (s : List ℕ) → x ≡ outcome s → result ≡ Numbers.shape_answer (loaded s) }
 {
     match x {
-        Outcome::Sound(g) => ShapeAnswer {
+        Ok(g) => ShapeAnswer {
             number: 0,
             place: 0,
             second: 0,
@@ -168,7 +116,7 @@ pub fn shape(x: Outcome) -> ShapeAnswer
             n: g.n as u64,
             r: g.r as u64,
         },
-        Outcome::Refused(r) => {
+        Err(r) => {
             let a = refused(r);
             ShapeAnswer {
                 number: a.number,
@@ -185,35 +133,48 @@ pub fn shape(x: Outcome) -> ShapeAnswer
     }
 }
 
-pub fn reported(x: Reported) -> ReportAnswer
+pub fn reported(x: Result<Report, Refusal>) -> ReportAnswer
     ensures { result ≡ Numbers.reported_answer x }
 {
-    let v = x.verdict;
-    let a = verdict(v);
-    let figures = x.report;
-    ReportAnswer {
-        number: a.number,
-        place: a.place,
-        second: a.second,
-        mapped: figures.mapped as u64,
-        held: figures.held as u64,
-        free: figures.free as u64,
-        saved: figures.saved as u64,
-        held_ratio: figures.held_ratio,
-        saved_ratio: figures.saved_ratio,
+    match x {
+        Ok(figures) => ReportAnswer {
+            number: 0,
+            place: 0,
+            second: 0,
+            mapped: figures.mapped as u64,
+            held: figures.held as u64,
+            free: figures.free as u64,
+            saved: figures.saved as u64,
+            held_ratio: figures.held_ratio,
+            saved_ratio: figures.saved_ratio,
+        },
+        Err(r) => {
+            let a = refused(r);
+            ReportAnswer {
+                number: a.number,
+                place: a.place,
+                second: a.second,
+                mapped: 0,
+                held: 0,
+                free: 0,
+                saved: 0,
+                held_ratio: 0.0,
+                saved_ratio: 0.0,
+            }
+        }
     }
 }
 
 // The shape of an image that was opened beside number 0; of any other the refusal's numbers, and 0 for the shape's.
-pub fn opened(x: Outcome) -> Opened
+pub fn opened(x: Result<Shape, Refusal>) -> Opened
     ensures { result ≡ Numbers.opened_answer x }
 {
     match x {
-        Outcome::Sound(g) => Opened {
+        Ok(g) => Opened {
             answer: given(0, 0),
-            index: held_shape(g),
+            index: HeldShape::from(g),
         },
-        Outcome::Refused(r) => Opened {
+        Err(r) => Opened {
             answer: refused(r),
             index: HeldShape {
                 edition: 0,

@@ -2,7 +2,7 @@
 ghost use Rattle.std.specs.Prelude.{◌≡◌, length};
 ghost use Rattle.indexed.specs.Opening.{open_outcome, open_sets};
 ghost use Rattle.indexed.specs.Calls.{index_held, plan_answer_by, plan_out_by, checked_by, carry_answer_by, carry_image_by, next_sets, access_answer_by, held_of_by, size_answer_by, report_answer_by, alarm_answer_by};
-ghost use Rattle.answers.specs.Numbers.{opened_answer, planned_answer, checked_answer, access_answers, held_answer, stored_answer, reported_answer, alarm_answers};
+ghost use Rattle.answers.specs.Numbers.{opened_answer, counted_answer, done_answer, access_answers, held_answer, reported_answer, alarm_answers};
 
 use answers::{Answer, Opened, ReportAnswer, numbers};
 use indexed::{HeldShape, lent};
@@ -26,11 +26,11 @@ pub fn sumbilak_index_plan_write(
     out: &mut [u8],
 ) -> Answer
     ensures value { result
-        ≡ planned_answer (plan_answer_by (index_held index sets.now) image.now (Request.Write chunk size) (length out.old)) }
+        ≡ counted_answer (plan_answer_by (index_held index sets.now) image.now (Request.Write chunk size) (length out.old)) }
     ensures out_after { out.new ≡ plan_out_by (index_held index sets.now) image.now (Request.Write chunk size) out.old }
 {
     let x = lent::plan_write(index, sets, image, chunk, size, out);
-    numbers::planned(x)
+    numbers::counted(x)
 }
 
 pub fn sumbilak_index_plan_discard(
@@ -41,11 +41,11 @@ pub fn sumbilak_index_plan_discard(
     out: &mut [u8],
 ) -> Answer
     ensures value { result
-        ≡ planned_answer (plan_answer_by (index_held index sets.now) image.now (Request.Discard chunk) (length out.old)) }
+        ≡ counted_answer (plan_answer_by (index_held index sets.now) image.now (Request.Discard chunk) (length out.old)) }
     ensures out_after { out.new ≡ plan_out_by (index_held index sets.now) image.now (Request.Discard chunk) out.old }
 {
     let x = lent::plan_discard(index, sets, image, chunk, out);
-    numbers::planned(x)
+    numbers::counted(x)
 }
 
 pub fn sumbilak_index_check_write(
@@ -56,10 +56,10 @@ pub fn sumbilak_index_check_write(
     size: u64,
     plan: &[u8],
 ) -> Answer
-    ensures { result ≡ checked_answer (checked_by (index_held index sets.now) image.now (Request.Write chunk size) plan.now) }
+    ensures { result ≡ done_answer (checked_by (index_held index sets.now) image.now (Request.Write chunk size) plan.now) }
 {
     let x = lent::check(index, sets, image, Request::Write { chunk, size }, plan);
-    numbers::checked(x)
+    numbers::done(x)
 }
 
 pub fn sumbilak_index_check_discard(
@@ -69,10 +69,10 @@ pub fn sumbilak_index_check_discard(
     chunk: u64,
     plan: &[u8],
 ) -> Answer
-    ensures { result ≡ checked_answer (checked_by (index_held index sets.now) image.now (Request.Discard chunk) plan.now) }
+    ensures { result ≡ done_answer (checked_by (index_held index sets.now) image.now (Request.Discard chunk) plan.now) }
 {
     let x = lent::check(index, sets, image, Request::Discard { chunk }, plan);
-    numbers::checked(x)
+    numbers::done(x)
 }
 
 pub fn sumbilak_index_carry_write(
@@ -85,13 +85,13 @@ pub fn sumbilak_index_carry_write(
     n: u64,
 ) -> Answer
     ensures value { result
-        ≡ checked_answer (carry_answer_by (index_held index sets.old) image.old (Request.Write chunk size) plan.now n) }
+        ≡ done_answer (carry_answer_by (index_held index sets.old) image.old (Request.Write chunk size) plan.now n) }
     ensures image_after { image.new
         ≡ carry_image_by (index_held index sets.old) image.old (Request.Write chunk size) plan.now n }
     ensures sets_after { sets.new ≡ next_sets (index_held index sets.old) image.old (Request.Write chunk size) plan.now n }
 {
     let x = lent::carry(index, sets, image, Request::Write { chunk, size }, plan, n);
-    numbers::checked(x)
+    numbers::done(x)
 }
 
 pub fn sumbilak_index_carry_discard(
@@ -103,13 +103,13 @@ pub fn sumbilak_index_carry_discard(
     n: u64,
 ) -> Answer
     ensures value { result
-        ≡ checked_answer (carry_answer_by (index_held index sets.old) image.old (Request.Discard chunk) plan.now n) }
+        ≡ done_answer (carry_answer_by (index_held index sets.old) image.old (Request.Discard chunk) plan.now n) }
     ensures image_after { image.new
         ≡ carry_image_by (index_held index sets.old) image.old (Request.Discard chunk) plan.now n }
     ensures sets_after { sets.new ≡ next_sets (index_held index sets.old) image.old (Request.Discard chunk) plan.now n }
 {
     let x = lent::carry(index, sets, image, Request::Discard { chunk }, plan, n);
-    numbers::checked(x)
+    numbers::done(x)
 }
 
 pub fn sumbilak_index_access(
@@ -139,7 +139,7 @@ pub fn sumbilak_index_stored_size(
     image: &[u8],
     chunk: u64,
 ) -> Answer
-    ensures { result ≡ stored_answer (size_answer_by (index_held index sets.now) image.now chunk) }
+    ensures { result ≡ counted_answer (size_answer_by (index_held index sets.now) image.now chunk) }
 {
     let x = lent::stored_size(index, sets, image, chunk);
     numbers::stored(x)

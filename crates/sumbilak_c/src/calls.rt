@@ -14,7 +14,7 @@ ghost use Rattle.planner.specs.Planner.{plan_answer, plan_out};
 ghost use Rattle.rules.specs.Rules.{checked};
 ghost use Rattle.carry.specs.Carry.{carry_answer, carry_image};
 ghost use Rattle.answers.specs.Loading.{load_answer, load_out};
-ghost use Rattle.answers.specs.Numbers.{formatted_answer, shape_answer, split_answers, access_answers, held_answer, stored_answer, planned_answer, repaired_answer, converted_answer, checked_answer, reported_answer, alarm_answers};
+ghost use Rattle.answers.specs.Numbers.{done_answer, shape_answer, counted_answer, access_answers, held_answer, reported_answer, alarm_answers};
 
 use answers::{Answer, ReportAnswer, ShapeAnswer};
 use report::Level;
@@ -23,7 +23,7 @@ use sumbilak::calls;
 
 #[unsafe(no_mangle)]
 pub extern "C" fn sumbilak_format(image: &mut [u8], p: u64, c: u64, m: u64, n: u64) -> Answer
-    ensures value { result ≡ formatted_answer (format_answer (edition1 p c m n) image.old) }
+    ensures value { result ≡ done_answer (format_answer (edition1 p c m n) image.old) }
     ensures image_after { image.new ≡ format_image (edition1 p c m n) image.old }
 {
     calls::sumbilak_format(image, p, c, m, n)
@@ -38,7 +38,7 @@ pub extern "C" fn sumbilak_format2(
     n: u64,
     r: u64,
 ) -> Answer
-    ensures value { result ≡ formatted_answer (format_answer (edition2 p c m n r) image.old) }
+    ensures value { result ≡ done_answer (format_answer (edition2 p c m n r) image.old) }
     ensures image_after { image.new ≡ format_image (edition2 p c m n r) image.old }
 {
     calls::sumbilak_format2(image, p, c, m, n, r)
@@ -61,7 +61,7 @@ pub extern "C" fn sumbilak_load(image: &[u8], out: &mut [u64]) -> Answer
 
 #[unsafe(no_mangle)]
 pub extern "C" fn sumbilak_split(image: &[u8], offset: u64, span: u64, out: &mut [u8]) -> Answer
-    ensures value { result ≡ split_answers (split_answer image.now offset span (length out.old)) }
+    ensures value { result ≡ counted_answer (split_answer image.now offset span (length out.old)) }
     ensures out_after { out.new ≡ split_out image.now offset span out.old }
 {
     calls::sumbilak_split(image, offset, span, out)
@@ -83,14 +83,14 @@ pub extern "C" fn sumbilak_held(image: &[u8], chunk: u64) -> Answer
 
 #[unsafe(no_mangle)]
 pub extern "C" fn sumbilak_stored_size(image: &[u8], chunk: u64) -> Answer
-    ensures { result ≡ stored_answer (size_answer image.now chunk) }
+    ensures { result ≡ counted_answer (size_answer image.now chunk) }
 {
     calls::sumbilak_stored_size(image, chunk)
 }
 
 #[unsafe(no_mangle)]
 pub extern "C" fn sumbilak_plan_write(image: &[u8], chunk: u64, size: u64, out: &mut [u8]) -> Answer
-    ensures value { result ≡ planned_answer (plan_answer image.now (Request.Write chunk size) (length out.old)) }
+    ensures value { result ≡ counted_answer (plan_answer image.now (Request.Write chunk size) (length out.old)) }
     ensures out_after { out.new ≡ plan_out image.now (Request.Write chunk size) out.old }
 {
     calls::sumbilak_plan_write(image, chunk, size, out)
@@ -98,7 +98,7 @@ pub extern "C" fn sumbilak_plan_write(image: &[u8], chunk: u64, size: u64, out: 
 
 #[unsafe(no_mangle)]
 pub extern "C" fn sumbilak_plan_discard(image: &[u8], chunk: u64, out: &mut [u8]) -> Answer
-    ensures value { result ≡ planned_answer (plan_answer image.now (Request.Discard chunk) (length out.old)) }
+    ensures value { result ≡ counted_answer (plan_answer image.now (Request.Discard chunk) (length out.old)) }
     ensures out_after { out.new ≡ plan_out image.now (Request.Discard chunk) out.old }
 {
     calls::sumbilak_plan_discard(image, chunk, out)
@@ -106,14 +106,14 @@ pub extern "C" fn sumbilak_plan_discard(image: &[u8], chunk: u64, out: &mut [u8]
 
 #[unsafe(no_mangle)]
 pub extern "C" fn sumbilak_check_write(image: &[u8], chunk: u64, size: u64, plan: &[u8]) -> Answer
-    ensures { result ≡ checked_answer (checked image.now (Request.Write chunk size) plan.now) }
+    ensures { result ≡ done_answer (checked image.now (Request.Write chunk size) plan.now) }
 {
     calls::sumbilak_check_write(image, chunk, size, plan)
 }
 
 #[unsafe(no_mangle)]
 pub extern "C" fn sumbilak_check_discard(image: &[u8], chunk: u64, plan: &[u8]) -> Answer
-    ensures { result ≡ checked_answer (checked image.now (Request.Discard chunk) plan.now) }
+    ensures { result ≡ done_answer (checked image.now (Request.Discard chunk) plan.now) }
 {
     calls::sumbilak_check_discard(image, chunk, plan)
 }
@@ -126,7 +126,7 @@ pub extern "C" fn sumbilak_carry_write(
     plan: &[u8],
     n: u64,
 ) -> Answer
-    ensures value { result ≡ checked_answer (carry_answer image.old (Request.Write chunk size) plan.now n) }
+    ensures value { result ≡ done_answer (carry_answer image.old (Request.Write chunk size) plan.now n) }
     ensures image_after { image.new ≡ carry_image image.old (Request.Write chunk size) plan.now n }
 {
     calls::sumbilak_carry_write(image, chunk, size, plan, n)
@@ -139,7 +139,7 @@ pub extern "C" fn sumbilak_carry_discard(
     plan: &[u8],
     n: u64,
 ) -> Answer
-    ensures value { result ≡ checked_answer (carry_answer image.old (Request.Discard chunk) plan.now n) }
+    ensures value { result ≡ done_answer (carry_answer image.old (Request.Discard chunk) plan.now n) }
     ensures image_after { image.new ≡ carry_image image.old (Request.Discard chunk) plan.now n }
 {
     calls::sumbilak_carry_discard(image, chunk, plan, n)
@@ -168,7 +168,7 @@ pub extern "C" fn sumbilak_alarm_fraction(image: &[u8], fraction: f64) -> Answer
 
 #[unsafe(no_mangle)]
 pub extern "C" fn sumbilak_repair(image: &mut [u8], out: &mut [u8]) -> Answer
-    ensures value { result ≡ repaired_answer (repair_answer image.old (length out.old)) }
+    ensures value { result ≡ counted_answer (repair_answer image.old (length out.old)) }
     ensures image_after { image.new ≡ repair_image image.old (length out.old) }
     ensures out_after { out.new ≡ repair_list image.old out.old }
 {
@@ -177,7 +177,7 @@ pub extern "C" fn sumbilak_repair(image: &mut [u8], out: &mut [u8]) -> Answer
 
 #[unsafe(no_mangle)]
 pub extern "C" fn sumbilak_convert(image: &[u8], out: &mut [u8]) -> Answer
-    ensures value { result ≡ converted_answer (convert_answer image.now (length out.old)) }
+    ensures value { result ≡ counted_answer (convert_answer image.now (length out.old)) }
     ensures out_after { out.new ≡ convert_out image.now out.old }
 {
     calls::sumbilak_convert(image, out)

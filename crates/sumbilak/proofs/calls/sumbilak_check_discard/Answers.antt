@@ -1,7 +1,7 @@
 -- `sumbilak::calls::sumbilak_check_discard` meets its contract: the answer of `checker::check::check` as numbers.
 use mathlib.Core.Path.{ap, ◌∙◌}
-use Rattle.answers.specs.Numbers.{checked_answer}
+use Rattle.answers.specs.Numbers.{done_answer}
 use Rattle.sumbilak.proofs.calls.sumbilak_check_discard.Goals as goal
 
 pub returns : goal.returns
-returns c = c.checked.ensures ∙ ap checked_answer c.check-x.ensures
+returns c = c.done.ensures ∙ ap done_answer c.check-x.ensures

@@ -4,4 +4,4 @@ use Rattle.answers.specs.Numbers.{held_answer}
 use Rattle.sumbilak.proofs.calls.sumbilak_held.Goals as goal
 
 pub returns : goal.returns
-returns c = c.held.ensures ∙ ap held_answer c.find_held-x.ensures.0
+returns c = c.held.ensures ∙ ap held_answer c.find_held-x.ensures.value

@@ -1,7 +1,7 @@
 -- `sumbilak::indexed::sumbilak_index_check_write` meets its contract: the answer of `index::lent::check` as numbers.
-use Rattle.answers.specs.Numbers.{checked_answer}
+use Rattle.answers.specs.Numbers.{done_answer}
 use mathlib.Core.Path.{ap, ◌∙◌}
 use Rattle.sumbilak.proofs.holding.sumbilak_index_check_write.Goals as goal
 
 pub returns : goal.returns
-returns c = c.checked.ensures ∙ ap checked_answer c.check-x.ensures
+returns c = c.done.ensures ∙ ap done_answer c.check-x.ensures

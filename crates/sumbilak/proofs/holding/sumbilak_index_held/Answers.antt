@@ -4,4 +4,4 @@ use mathlib.Core.Path.{ap, ◌∙◌}
 use Rattle.sumbilak.proofs.holding.sumbilak_index_held.Goals as goal
 
 pub returns : goal.returns
-returns c = c.held.ensures ∙ ap held_answer c.find_held-x.ensures.0
+returns c = c.held.ensures ∙ ap held_answer c.find_held-x.ensures.value
