@@ -1,15 +1,14 @@
 -- Laws of decimal numbers: what a loop over the digits of a text still has to read.
-use Rattle.std.proofs.Common.{◌≡◌, ℕ, ◌+◌, ◌-◌, ◌*◌, ◌<◌, ◌≤◌, true, false, cond, leb, List, [], ◌∷◌, length, get_or, drop, refl, ap, ⊎_elim, add-one, arith, drop_of_length-le, drop-cons, leb-false, leb-true}
+use Rattle.std.specs.Prelude.{Option, Some, None}
+use Rattle.std.proofs.Common.{◌≡◌, ◌≢◌, ℕ, ◌+◌, ◌-◌, ◌*◌, ◌<◌, ◌≤◌, true, false, cond, leb, List, [], ◌∷◌, length, get_or, drop, refl, ap, ⊎_elim, add-one, arith, drop_of_length-le, drop-cons, leb-false, leb-true}
 use Rattle.search.specs.Search.{all}
-use Rattle.search.proofs.Bools.{either, and_left, and_right}
+use Rattle.search.proofs.Bools.{either}
 use Rattle.search.proofs.Members.{all_more, all-stop, all_end}
-use Rattle.decimals.specs.declared.Number.{Number}
-use Rattle.decimals.specs.declared.Number.TheVariants.{Value, Malformed}
 use Rattle.decimals.specs.Numbers.{is_digit, is_numeral, value_from, greatest, capped, appended, number_from}
 
 -- a number with the digits of a text after its own; there may be none
-unfoldable pub digits_after : ℕ → List ℕ → Number
-digits_after n text = cond (all is_digit text) (Value (capped (value_from n text))) Malformed
+unfoldable pub digits_after : ℕ → List ℕ → Option ℕ
+digits_after n text = cond (all is_digit text) (Some (capped (value_from n text))) None
 
 value_grows : (n : ℕ) (bs : List ℕ) → n ≤ value_from n bs
 unfolding value_from
@@ -28,14 +27,14 @@ value-capped n bs =
     omega arith)
     (either (leb n greatest))
 
-pub no-digits : (n : ℕ) (text : List ℕ) → length text ≡ 0 → Malformed ≡ number_from n text
+pub no-digits : (n : ℕ) (text : List ℕ) → length text ≡ 0 → None ≡ number_from n text
 unfolding number_from is_numeral
 no-digits n [] h = refl
 no-digits n (b ∷ bs) h = absurd (omega arith)
 
-pub some-digits : (n : ℕ) (text : List ℕ) → 0 < length text → number_from n text ≡ digits_after n (drop 0 text)
+pub some-digits : (n : ℕ) (text : List ℕ) → length text ≢ 0 → number_from n text ≡ digits_after n text
 unfolding number_from is_numeral digits_after
-some-digits n [] h = absurd (omega arith)
+some-digits n [] h = absurd (h refl)
 some-digits n (b ∷ bs) h = refl
 
 module _ (n : ℕ) (text : List ℕ) (i : ℕ) where
@@ -49,14 +48,10 @@ module _ (n : ℕ) (text : List ℕ) (i : ℕ) where
   digits_more h e =
       rw (all_more is_digit text i h e, ap capped (value-more h), value-capped (10 * n + (get_or text i 0 - 48)) (drop (i + 1) text))
 
-  pub digits-stop : i < length text → is_digit (get_or text i 0) ≡ false → digits_after n (drop i text) ≡ Malformed
+  pub digits-stop : i < length text → is_digit (get_or text i 0) ≡ false → digits_after n (drop i text) ≡ None
   unfolding digits_after
   digits-stop h e = rw (all-stop is_digit text i h e)
 
-  pub digits-end : length text ≤ i → n ≤ greatest → digits_after n (drop i text) ≡ Value n
+  pub digits-end : length text ≤ i → n ≤ greatest → digits_after n (drop i text) ≡ Some n
   unfolding digits_after value_from
-  digits-end h high = rw (all_end is_digit text i h, drop_of_length-le text h) (ap Value (omega arith))
-
-pub digit-bounds : (b : ℕ) → is_digit b ≡ true → (48 ≤ b) × (b ≤ 57)
-unfolding is_digit
-digit-bounds b e = (leb-true 48 b (and_left (leb 48 b) (leb b 57) e), leb-true b 57 (and_right (leb 48 b) (leb b 57) e))
+  digits-end h high = rw (all_end is_digit text i h, drop_of_length-le text h) (ap Some (omega arith))

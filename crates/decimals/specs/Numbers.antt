@@ -1,8 +1,6 @@
 -- Decimal numbers of any length.
-use Rattle.std.specs.Prelude.{ℕ, ◌+◌, ◌-◌, ◌*◌, min, Bool, false, cond, ◌&&◌, List, [], ◌∷◌, nat_le}
+use Rattle.std.specs.Prelude.{ℕ, ◌+◌, ◌-◌, ◌*◌, min, Bool, false, cond, ◌&&◌, List, [], ◌∷◌, nat_le, Option, Some, None}
 use Rattle.search.specs.Search.{all}
-use Rattle.decimals.specs.declared.Number.{Number}
-use Rattle.decimals.specs.declared.Number.TheVariants.{Value, Malformed}
 
 -- the bytes '0' to '9'
 unfoldable pub is_digit : ℕ → Bool
@@ -31,9 +29,9 @@ abbrev pub appended : ℕ → ℕ → ℕ
 appended n b = capped (10 * n + (b - 48))
 
 -- a number and the digits of a text, of any length
-unfoldable pub number_from : ℕ → List ℕ → Number
-number_from n text = cond (is_numeral text) (Value (capped (value_from n text))) Malformed
+unfoldable pub number_from : ℕ → List ℕ → Option ℕ
+number_from n text = cond (is_numeral text) (Some (capped (value_from n text))) None
 
 -- what a text is read as
-abbrev pub number_of : List ℕ → Number
+abbrev pub number_of : List ℕ → Option ℕ
 number_of text = number_from 0 text

@@ -4,10 +4,10 @@ ghost use Rattle.layout.specs.declared.Shape.{Shape};
 ghost use Rattle.layout.specs.Layout.{first_edition, last_edition, within_limits, image_bytes, max_image_bytes};
 
 use host::making::make_file;
-use host::{Outcome, Word};
+use host::{Failure, Word};
 use layout::format::{format, format2};
 use layout::{
-    ADDED_BYTES, FIRST_EDITION, Formatted, MAX_CHUNK_UNITS, MAX_CHUNKS, MAX_IMAGE_BYTES, MAX_MAPS,
+    ADDED_BYTES, FIRST_EDITION, MAX_CHUNK_UNITS, MAX_CHUNKS, MAX_IMAGE_BYTES, MAX_MAPS,
     TRAILER_BYTES,
 };
 
@@ -20,13 +20,7 @@ pub(crate) fn image_length(edition: u32, p: u64, c: u64, m: u64) -> usize
         let g : Shape = record { edition = edition; p = p; c = c; m = m; n = n; r = reserved } in
         within_limits g ≡ true → result ≡ image_bytes g }
 {
-    if p > MAX_CHUNK_UNITS as u64 {
-        return 0;
-    }
-    if c > MAX_CHUNKS as u64 {
-        return 0;
-    }
-    if m > MAX_MAPS as u64 {
+    if p > MAX_CHUNK_UNITS as u64 || c > MAX_CHUNKS as u64 || m > MAX_MAPS as u64 {
         return 0;
     }
     let head = (edition - FIRST_EDITION) as usize;
@@ -34,44 +28,7 @@ pub(crate) fn image_length(edition: u32, p: u64, c: u64, m: u64) -> usize
     8 * c as usize + 8 * (m as usize * map_words) + (TRAILER_BYTES + ADDED_BYTES * head)
 }
 
-// Formats the lent room in an edition; the first has no reserved units.
-fn format_as(room: &mut [u8], edition: u32, p: u64, c: u64, m: u64, n: u64, r: u64) -> Formatted {
-    if edition == FIRST_EDITION {
-        return format(room, p, c, m, n);
-    }
-    format2(room, p, c, m, n, r)
-}
-
-// Formats the lent room, and makes it the file that argument 1 names.
-fn format_room(
-    rt: HostRuntime,
-    room: &mut [u8],
-    edition: u32,
-    p: u64,
-    c: u64,
-    m: u64,
-    n: u64,
-    r: u64,
-) -> Outcome {
-    let f = format_as(room, edition, p, c, m, n, r);
-    match f {
-        Formatted::Done => {
-            if make_file(rt, 1, room) {
-                return Outcome::Answered(Word::Formatted);
-            }
-            Outcome::Unreadable
-        }
-        Formatted::Refused(r) => Outcome::Refused(r),
-    }
-}
-
-// Room for any image. The `ensures` gives the length, which lending a part of it needs.
-pub(crate) fn image_room() -> [u8; MAX_IMAGE_BYTES]
-    ensures { max_image_bytes ≡ length result }
-{
-    [0u8; MAX_IMAGE_BYTES]
-}
-
+// Makes the file that argument 1 names of a fresh volume. Edition 1 has no reserved units.
 pub(crate) fn format_file(
     rt: HostRuntime,
     edition: u32,
@@ -80,10 +37,17 @@ pub(crate) fn format_file(
     m: u64,
     n: u64,
     r: u64,
-) -> Outcome
+) -> Result<Option<Word>, Failure>
     requires { (first_edition ≤ edition) × (edition ≤ last_edition) }
 {
     let length = image_length(edition, p, c, m);
-    let mut room = image_room();
-    format_room(rt, &mut room[..length], edition, p, c, m, n, r)
+    let mut room = [0u8; MAX_IMAGE_BYTES];
+    let image = &mut room[..length];
+    if edition == FIRST_EDITION {
+        format(image, p, c, m, n)?;
+    } else {
+        format2(image, p, c, m, n, r)?;
+    }
+    make_file(rt, 1, image)?;
+    Ok(Some(Word::Formatted))
 }

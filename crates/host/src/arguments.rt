@@ -1,9 +1,9 @@
 // The arguments: numbers, fractions, requests, and the names of files.
-ghost use Rattle.std.specs.Prelude.{◌≤◌, length, IfSome};
+ghost use Rattle.std.specs.Prelude.{◌≤◌, length, IfOk};
 
 use crate::saying::complain;
-use crate::{ARGUMENT_ROOM, Asked, Threshold};
-use decimals::{Fraction, Number, fractions, numbers};
+use crate::{ARGUMENT_ROOM, Told};
+use decimals::{fractions, numbers};
 use report::Level;
 use std::env::{Env, FillError};
 use steps::Request;
@@ -15,89 +15,69 @@ fn is_there(rt: HostRuntime, i: usize) -> bool {
 
 // How many arguments there are, the program's own name among them.
 pub fn count(rt: HostRuntime) -> usize {
-    for i in 0..usize::MAX {
-        if !is_there(rt, i) {
-            return i;
-        }
-    }
-    usize::MAX
+    (0..usize::MAX)
+        .find(|&i| !is_there(rt, i))
+        .unwrap_or(usize::MAX)
 }
 
 // Whether there are `n` arguments, the program's own name among them. An argument too many is as
 // wrong as a missing one: it was meant for something.
-pub fn are(rt: HostRuntime, n: usize, usage: &[u8]) -> bool {
+pub fn are(rt: HostRuntime, n: usize, usage: &[u8]) -> Result<(), Told> {
     if count(rt) == n {
-        return true;
+        return Ok(());
     }
-    complain(rt, b"usage", usage);
-    false
+    Err(complain(rt, b"usage", usage))
 }
 
 // Puts argument i at the start of the room, and says how long it is. Where it is missing or longer
 // than the room, the reason is told, after `what` it is to be.
-fn fetch(rt: HostRuntime, i: usize, what: &[u8], room: &mut [u8]) -> Option<usize>
-    ensures { IfSome result (λ n. n ≤ length room.new) }
+fn fetch(rt: HostRuntime, i: usize, what: &[u8], room: &mut [u8]) -> Result<usize, Told>
+    ensures { IfOk result (λ n. n ≤ length room.new) }
 {
     match rt.arg(i, room) {
-        Ok(n) => Some(n),
-        Err(FillError::TooLong) => {
-            complain(rt, what, b"File name too long");
-            None
-        }
-        Err(FillError::NotPresent) => {
-            complain(rt, what, b"Invalid argument");
-            None
-        }
+        Ok(n) => Ok(n),
+        Err(FillError::TooLong) => Err(complain(rt, what, b"File name too long")),
+        Err(FillError::NotPresent) => Err(complain(rt, what, b"Invalid argument")),
     }
 }
 
 // The same of an argument that names a file.
-pub fn file_name(rt: HostRuntime, i: usize, room: &mut [u8]) -> Option<usize>
-    ensures { IfSome result (λ n. n ≤ length room.new) }
+pub fn file_name(rt: HostRuntime, i: usize, room: &mut [u8]) -> Result<usize, Told>
+    ensures { IfOk result (λ n. n ≤ length room.new) }
 {
     fetch(rt, i, b"file name", room)
 }
 
-// What a text is that is to be a number.
-fn number_in(rt: HostRuntime, text: &[u8]) -> Number {
-    let n = numbers::number(text);
-    match n {
-        Number::Value(value) => Number::Value(value),
-        Number::Malformed => {
-            complain(rt, b"not a decimal number", text);
-            Number::Malformed
-        }
-    }
+// What argument i says, which is to be `what` as `read` reads it. Where it is none, `wrong` is told.
+fn said<T, F: FnOnce(&[u8]) -> Option<T>>(
+    rt: HostRuntime,
+    i: usize,
+    what: &[u8],
+    wrong: &[u8],
+    read: F,
+) -> Result<T, Told>
+    requires { F.IsAlwaysCallable read }
+{
+    let mut room = [0u8; ARGUMENT_ROOM];
+    let length = fetch(rt, i, what, &mut room)?;
+    let text = &room[..length];
+    read(text).ok_or_else(|| complain(rt, wrong, text))
 }
 
 // The number that argument i says.
-pub fn number(rt: HostRuntime, i: usize) -> Number {
-    let mut room = [0u8; ARGUMENT_ROOM];
-    match fetch(rt, i, b"number", &mut room) {
-        Some(length) => number_in(rt, &room[..length]),
-        None => Number::Malformed,
-    }
-}
-
-// What a text is that is to be a fraction.
-fn fraction_in(rt: HostRuntime, text: &[u8]) -> Fraction {
-    let x = fractions::fraction(text);
-    match x {
-        Fraction::Value(value) => Fraction::Value(value),
-        Fraction::Malformed => {
-            complain(rt, b"not a decimal fraction of at most 15 digits", text);
-            Fraction::Malformed
-        }
-    }
+pub fn number(rt: HostRuntime, i: usize) -> Result<u64, Told> {
+    said(rt, i, b"number", b"not a decimal number", numbers::number)
 }
 
 // The fraction that argument i says.
-pub fn fraction(rt: HostRuntime, i: usize) -> Fraction {
-    let mut room = [0u8; ARGUMENT_ROOM];
-    match fetch(rt, i, b"fraction", &mut room) {
-        Some(length) => fraction_in(rt, &room[..length]),
-        None => Fraction::Malformed,
-    }
+pub fn fraction(rt: HostRuntime, i: usize) -> Result<f64, Told> {
+    said(
+        rt,
+        i,
+        b"fraction",
+        b"not a decimal fraction of at most 15 digits",
+        fractions::fraction,
+    )
 }
 
 // Whether argument i is a word.
@@ -109,69 +89,32 @@ pub fn is_word(rt: HostRuntime, i: usize, word: &[u8]) -> bool {
     }
 }
 
-// A write of the chunk and the size that arguments i and i + 1 say.
-fn write_at(rt: HostRuntime, i: usize) -> Asked
-    requires { i ≤ 8 }
-{
-    let n = number(rt, i);
-    match n {
-        Number::Value(chunk) => {
-            let m = number(rt, i + 1);
-            match m {
-                Number::Value(size) => Asked::For(Request::Write { chunk, size }),
-                Number::Malformed => Asked::Malformed,
-            }
-        }
-        Number::Malformed => Asked::Malformed,
-    }
-}
-
-// A discard of the chunk that argument i says.
-fn discard_at(rt: HostRuntime, i: usize) -> Asked {
-    let n = number(rt, i);
-    match n {
-        Number::Value(chunk) => Asked::For(Request::Discard { chunk }),
-        Number::Malformed => Asked::Malformed,
-    }
-}
-
 // The request that the arguments from i on say, and no other argument: `write CHUNK SIZE` or
 // `discard CHUNK`.
-pub fn request(rt: HostRuntime, i: usize, usage: &[u8]) -> Asked
+pub fn request(rt: HostRuntime, i: usize, usage: &[u8]) -> Result<Request, Told>
     requires { i ≤ 4 }
 {
     if is_word(rt, i, b"write") {
-        if are(rt, i + 3, usage) {
-            return write_at(rt, i + 1);
-        }
-        return Asked::Malformed;
+        are(rt, i + 3, usage)?;
+        let chunk = number(rt, i + 1)?;
+        let size = number(rt, i + 2)?;
+        return Ok(Request::Write { chunk, size });
     }
     if is_word(rt, i, b"discard") {
-        if are(rt, i + 2, usage) {
-            return discard_at(rt, i + 1);
-        }
-        return Asked::Malformed;
+        are(rt, i + 2, usage)?;
+        let chunk = number(rt, i + 1)?;
+        return Ok(Request::Discard { chunk });
     }
-    complain(rt, b"usage", usage);
-    Asked::Malformed
+    Err(complain(rt, b"usage", usage))
 }
 
 // The alarm level that arguments 2 and 3 say: `units COUNT` or `fraction DECIMAL`.
-pub fn level(rt: HostRuntime, usage: &[u8]) -> Threshold {
+pub fn level(rt: HostRuntime, usage: &[u8]) -> Result<Level, Told> {
     if is_word(rt, 2, b"units") {
-        let n = number(rt, 3);
-        return match n {
-            Number::Value(count) => Threshold::At(Level::Count(count)),
-            Number::Malformed => Threshold::Malformed,
-        };
+        return Ok(Level::Count(number(rt, 3)?));
     }
     if is_word(rt, 2, b"fraction") {
-        let x = fraction(rt, 3);
-        return match x {
-            Fraction::Value(value) => Threshold::At(Level::Fraction(value)),
-            Fraction::Malformed => Threshold::Malformed,
-        };
+        return Ok(Level::Fraction(fraction(rt, 3)?));
     }
-    complain(rt, b"usage", usage);
-    Threshold::Malformed
+    Err(complain(rt, b"usage", usage))
 }

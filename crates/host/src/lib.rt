@@ -1,9 +1,10 @@
 // What the programs take from the machine and give to it: arguments, files, and what is printed.
 #![tactic(auto)]
 
+ghost use Rattle.std.specs.Prelude.{◌≡◌};
+ghost use Rattle.host.specs.declared.Failure.TheVariants.{Refused, Unreadable};
+
 use layout::Refusal;
-use report::Level;
-use steps::Request;
 
 pub mod arguments;
 pub mod making;
@@ -17,49 +18,6 @@ pub const ARGUMENT_ROOM: usize = 131072;
 
 // Longer than any name of a file that Linux takes.
 pub const NAME_ROOM: usize = 4096;
-
-// The arguments that are to be a request or an alarm level.
-#[derive(Clone, Copy)]
-pub enum Asked {
-    For(Request),
-    Malformed,
-}
-
-#[derive(Clone, Copy)]
-pub enum Threshold {
-    At(Level),
-    Malformed,
-}
-
-// How a file was read: to its end, as far as there was room, or not.
-#[derive(Clone, Copy)]
-pub enum Status {
-    Whole,
-    Long,
-    Unreadable,
-}
-
-// What was read of a file: how, and how many bytes.
-#[derive(Clone, Copy)]
-pub struct Content {
-    pub status: Status,
-    pub length: usize,
-}
-
-impl Content {
-    // Nothing was read.
-    pub const NONE: Content = Content {
-        status: Status::Unreadable,
-        length: 0,
-    };
-}
-
-// How many bytes a file has. A pipe cannot tell.
-#[derive(Clone, Copy)]
-pub enum Length {
-    Bytes(u64),
-    Unknown,
-}
 
 // The word of a program's last line where it has an answer.
 #[derive(Clone, Copy)]
@@ -76,12 +34,56 @@ pub enum Word {
     Converted,
 }
 
-// How a program's work ended. `Listed` is an answer that was printed whole, and has no last line of
-// its own. Where it is `Unreadable`, standard error has been told why.
+// Why a program's work has no answer: it ended with a refusal, or with a file or an argument that
+// cannot be used, of which standard error has been told why.
 #[derive(Clone, Copy)]
-pub enum Outcome {
-    Answered(Word),
-    Listed,
+pub enum Failure {
     Refused(Refusal),
     Unreadable,
+}
+
+// What could not be done. Standard error has been told why: `complain` and `fail` of `saying` answer
+// this.
+#[derive(Clone, Copy)]
+pub struct Told;
+
+// Why a file was not read to its end: there was no room for all of it, and what was read fills the
+// room, or it could not be read.
+#[derive(Clone, Copy)]
+pub enum ReadError {
+    Long,
+    Unreadable,
+}
+
+impl From<Refusal> for Failure {
+    ghost from_gives = { λ r e. e ≡ Refused r };
+
+    fn from(r: Refusal) -> Failure {
+        Failure::Refused(r)
+    }
+}
+
+impl From<Told> for Failure {
+    ghost from_gives = { λ _ e. e ≡ Unreadable };
+
+    fn from(_: Told) -> Failure {
+        Failure::Unreadable
+    }
+}
+
+impl From<Told> for ReadError {
+    fn from(_: Told) -> ReadError {
+        ReadError::Unreadable
+    }
+}
+
+// A file longer than any image is refused for its length, as an image is whose trailer does not
+// agree with its length.
+impl From<ReadError> for Failure {
+    fn from(e: ReadError) -> Failure {
+        match e {
+            ReadError::Long => Failure::Refused(Refusal::Geometry),
+            ReadError::Unreadable => Failure::Unreadable,
+        }
+    }
 }

@@ -1,8 +1,8 @@
 // What is printed. The last line of a program stands in one function, `conclude`. What standard
 // output or standard error does not take is lost, and the program goes on; `number_line` tells it.
-use crate::{Outcome, Word};
+use crate::{Failure, Told, Word};
 use layout::{Refusal, refusals};
-use std::io;
+use std::{fmt, io};
 
 pub fn text(rt: HostRuntime, bytes: &[u8]) {
     let _ = rt.stdout().write_all(bytes);
@@ -14,14 +14,8 @@ pub fn number(rt: HostRuntime, n: u64) {
 
 // A number on a line of its own, for a list that cannot be had again: where it could not be
 // written, the reason is told.
-pub fn number_line(rt: HostRuntime, n: u64) -> bool {
-    match println!(rt; "{n}") {
-        Ok(()) => true,
-        Err(e) => {
-            fail(rt, b"standard output", &e);
-            false
-        }
-    }
+pub fn number_line(rt: HostRuntime, n: u64) -> Result<(), Told> {
+    println!(rt; "{n}").map_err(|e| fail(rt, b"standard output", &e))
 }
 
 // A label and its number.
@@ -30,21 +24,18 @@ pub fn labelled(rt: HostRuntime, label: &[u8], n: u64) {
     number(rt, n);
 }
 
-// The same on standard error, which is for reasons.
+// On standard error, which is for reasons.
 fn reason(rt: HostRuntime, bytes: &[u8]) {
     let _ = rt.stderr().write_all(bytes);
 }
 
-fn reason_number(rt: HostRuntime, n: u64) {
-    let _ = eprint!(rt; "{n}");
-}
-
 // A reason about what an argument or a file is.
-pub fn complain(rt: HostRuntime, what: &[u8], about: &[u8]) {
+pub fn complain(rt: HostRuntime, what: &[u8], about: &[u8]) -> Told {
     reason(rt, what);
     reason(rt, b": ");
     reason(rt, about);
     reason(rt, b"\n");
+    Told
 }
 
 // The system's own words of what an error says: std adds the error's number in parentheses.
@@ -57,76 +48,72 @@ fn own_words(said: &str) -> &str {
 
 // The reason why the system did not do something. Where there is no memory for it, its number is
 // said too.
-pub fn fail(rt: HostRuntime, what: &[u8], why: &io::Error) {
+pub fn fail(rt: HostRuntime, what: &[u8], why: &io::Error) -> Told {
     match why.to_string(rt.alloc()) {
         Ok(said) => complain(rt, what, own_words(said.as_str()).as_bytes()),
         Err(_) => {
             reason(rt, what);
             let _ = eprintln!(rt; ": {why}");
+            Told
         }
     }
 }
 
-// A refusal's place, in words.
-fn place(rt: HostRuntime, words: &[u8], at: u32) {
-    reason(rt, words);
-    reason_number(rt, at as u64);
+// A refusal's row by its name in document 01's table, and its place.
+#[derive(Clone, Copy)]
+struct Row(Refusal);
+
+impl fmt::Display for Row {
+    fn fmt<W: fmt::Write>(&self, f: &mut fmt::Formatter<W>) -> fmt::Result {
+        match self.0 {
+            Refusal::Short => write!(f, "SHORT"),
+            Refusal::Foreign => write!(f, "FOREIGN"),
+            Refusal::Geometry => write!(f, "GEOMETRY"),
+            Refusal::BadLink(chunk) => write!(f, "BAD LINK, chunk {chunk}"),
+            Refusal::BadMap(chunk) => write!(f, "BAD MAP, chunk {chunk}"),
+            Refusal::Shared(first, second) => write!(f, "SHARED, chunks {first} and {second}"),
+            Refusal::Range => write!(f, "RANGE"),
+            Refusal::Size => write!(f, "SIZE"),
+            Refusal::NoRoom(free) => write!(f, "NO ROOM, free units {free}"),
+            Refusal::Small(needed) => write!(f, "SMALL, bytes needed {needed}"),
+            Refusal::BadPlan(rule) => write!(f, "BAD PLAN, rule {rule}"),
+            Refusal::BadAlarm => write!(f, "BAD ALARM"),
+        }
+    }
 }
 
-// A refusal's row by its name in document 01's table, and its place.
-fn row(rt: HostRuntime, r: Refusal) {
-    match r {
-        Refusal::Short => reason(rt, b" SHORT"),
-        Refusal::Foreign => reason(rt, b" FOREIGN"),
-        Refusal::Geometry => reason(rt, b" GEOMETRY"),
-        Refusal::BadLink(chunk) => place(rt, b" BAD LINK, chunk ", chunk),
-        Refusal::BadMap(chunk) => place(rt, b" BAD MAP, chunk ", chunk),
-        Refusal::Shared(first, second) => {
-            place(rt, b" SHARED, chunks ", first);
-            place(rt, b" and ", second);
+impl fmt::Display for Word {
+    fn fmt<W: fmt::Write>(&self, f: &mut fmt::Formatter<W>) -> fmt::Result {
+        match self {
+            Word::Sound => write!(f, "SOUND"),
+            Word::Formatted => write!(f, "FORMATTED"),
+            Word::Planned => write!(f, "PLANNED"),
+            Word::Accepted => write!(f, "ACCEPTED"),
+            Word::Carried => write!(f, "CARRIED"),
+            Word::Reported => write!(f, "REPORTED"),
+            Word::Sounds => write!(f, "SOUNDS"),
+            Word::Silent => write!(f, "SILENT"),
+            Word::Sized => write!(f, "SIZED"),
+            Word::Converted => write!(f, "CONVERTED"),
         }
-        Refusal::Range => reason(rt, b" RANGE"),
-        Refusal::Size => reason(rt, b" SIZE"),
-        Refusal::NoRoom(free) => place(rt, b" NO ROOM, free units ", free),
-        Refusal::Small(needed) => place(rt, b" SMALL, bytes needed ", needed),
-        Refusal::BadPlan(rule) => place(rt, b" BAD PLAN, rule ", rule),
-        Refusal::BadAlarm => reason(rt, b" BAD ALARM"),
     }
 }
 
 // A refusal: its number on standard output, its name and place on standard error.
 fn refused(rt: HostRuntime, r: Refusal) {
-    let n = refusals::number(r) as u64;
-    reason(rt, b"refused: ");
-    reason_number(rt, n);
-    row(rt, r);
-    reason(rt, b"\n");
-    text(rt, b"s REFUSED ");
-    number(rt, n);
-    text(rt, b"\n");
+    let n = refusals::number(r);
+    let _ = eprintln!(rt; "refused: {n} {}", Row(r));
+    let _ = println!(rt; "s REFUSED {n}");
 }
 
-fn answered(rt: HostRuntime, word: Word) {
-    match word {
-        Word::Sound => text(rt, b"s SOUND\n"),
-        Word::Formatted => text(rt, b"s FORMATTED\n"),
-        Word::Planned => text(rt, b"s PLANNED\n"),
-        Word::Accepted => text(rt, b"s ACCEPTED\n"),
-        Word::Carried => text(rt, b"s CARRIED\n"),
-        Word::Reported => text(rt, b"s REPORTED\n"),
-        Word::Sounds => text(rt, b"s SOUNDS\n"),
-        Word::Silent => text(rt, b"s SILENT\n"),
-        Word::Sized => text(rt, b"s SIZED\n"),
-        Word::Converted => text(rt, b"s CONVERTED\n"),
-    }
-}
-
-// The last line of a program, if it has one.
-pub fn conclude(rt: HostRuntime, outcome: Outcome) {
-    match outcome {
-        Outcome::Answered(word) => answered(rt, word),
-        Outcome::Listed => {}
-        Outcome::Refused(r) => refused(rt, r),
-        Outcome::Unreadable => text(rt, b"s UNREADABLE\n"),
+// The last line of a program, if it has one: an answer that was printed whole has no word for it.
+pub fn conclude(rt: HostRuntime, ended: Result<Option<Word>, Failure>) {
+    match ended {
+        Ok(Some(word)) => {
+            let _ = println!(rt; "s {word}");
+        }
+        Ok(None) => {}
+        Err(Failure::Refused(r)) => refused(rt, r),
+        Err(Failure::Unreadable) => text(rt, b"s UNREADABLE\n"),
     }
 }

@@ -1,4 +1,5 @@
 -- A plan that is longer than what is read of it gets the answer that the whole of it would get.
+use Rattle.std.specs.Prelude.{Result, Err, ⊤}
 use Prim.Native.Nat.{ℕ, ◌%◌, ◌<◌, ◌≤◌}
 use mathlib.Core.Path.{◌≡◌, ap, sym, ◌∙◌}
 use mathlib.Core.Bool.{false, cond, ◌&&◌}
@@ -16,12 +17,11 @@ use Rattle.image.specs.Verdicts.{verdict}
 use Rattle.image.specs.Answers.{if_sound}
 use Rattle.steps.specs.declared.Request.{Request}
 use Rattle.steps.specs.Steps.{whole_steps, good_chunk, good_size}
-use Rattle.rules.specs.declared.Checked.{Checked}
-use Rattle.rules.specs.declared.Checked.TheVariants.{Refused as Denied}
 use Rattle.rules.proofs.Deciding.{broken-1}
 use Rattle.rules.specs.Rules.{Known, rule1, known_of, judged, checked}
 use Rattle.carry.specs.Carry.{carry_in, carry_answer}
 use Rattle.plans.specs.LongPlans.{read_of, asked_of}
+use Rattle.layout.specs.declared.Refusal.{Refusal}
 
 -- "at most 64"
 too_long : (g : Shape) (plan : List ℕ) → 64 < whole_steps plan → rule1 g plan ≡ false
@@ -32,7 +32,7 @@ too_long g plan h =
 
 long-judged :
     (kn : Known) (r : Request) (plan : List ℕ) → 64 < whole_steps plan
-    → judged kn r plan ≡ cond (good_chunk kn.shape r) (cond (good_size kn.shape r) (Denied (BadPlan 1)) (Denied Size)) (Denied Range)
+    → judged kn r plan ≡ cond (good_chunk kn.shape r) (cond (good_size kn.shape r) (Err (BadPlan 1)) (Err Size)) (Err Range)
 unfolding judged
 long-judged kn r plan h = rw (← broken-1 kn r plan (too_long kn.shape plan h))
 
@@ -50,7 +50,7 @@ module _ (plan : List ℕ) (long : 1040 ≤ length plan) where
 
     pub long-checked : checked s r plan ≡ checked s r (read_of plan)
     unfolding checked
-    long-checked = ap (λ (a : Checked). if_sound (verdict s) Denied a) read-judged
+    long-checked = ap (λ (a : Result ⊤ Refusal). if_sound (verdict s) Err a) read-judged
 
     module _ (n : ℕ) where
       same-range : ltb (whole_steps plan) n ≡ ltb 65 (asked_of n (whole_steps plan))
@@ -65,5 +65,5 @@ module _ (plan : List ℕ) (long : 1040 ≤ length plan) where
       pub long-carried : carry_answer s r plan n ≡ carry_answer s r (read_of plan) (asked_of n (whole_steps plan))
       unfolding carry_in
       long-carried =
-          ap (λ (a : Checked). if_sound (verdict s) Denied a)
+          ap (λ (a : Result ⊤ Refusal). if_sound (verdict s) Err a)
           (rw (same-range, read-steps, read-judged))

@@ -1,10 +1,11 @@
 -- How the program of the checker ends, by what the library answered it.
-use Rattle.rules.specs.declared.Checked.{Checked}
-use Rattle.rules.specs.declared.Checked.TheVariants.{Accepted, Refused as Denied}
-use Rattle.host.specs.declared.Outcome.{Outcome}
-use Rattle.host.specs.declared.Outcome.TheVariants.{Answered, Refused}
+use Rattle.std.specs.Prelude.{Result, Ok, Err, Option, Some, ⊤}
+use Rattle.host.specs.declared.Failure.{Failure}
+use Rattle.host.specs.declared.Failure.TheVariants.{Refused}
+use Rattle.host.specs.declared.Word.{Word}
 use Rattle.host.specs.declared.Word.TheVariants.{Accepted as accepted}
+use Rattle.layout.specs.declared.Refusal.{Refusal}
 
-abbrev pub check_outcome : Checked → Outcome
-check_outcome Accepted = Answered accepted
-check_outcome (Denied r) = Refused r
+abbrev pub check_outcome : Result ⊤ Refusal → Result (Option Word) Failure
+check_outcome (Ok tt) = Ok (Some accepted)
+check_outcome (Err r) = Err (Refused r)

@@ -4,7 +4,7 @@
 
 use files::repairing::repair_file;
 use host::saying::{complain, conclude, text};
-use host::{NAME_ROOM, Outcome, arguments};
+use host::{NAME_ROOM, arguments};
 use std::env::Env;
 use views::listing::list_file;
 
@@ -17,35 +17,30 @@ fn name_line(rt: HostRuntime, i: usize) {
     text(rt, b"\n");
 }
 
-// The file that argument i names, after a line with its name: what its repair says, where it is to
-// be repaired first, and what it holds.
-fn show_case(rt: HostRuntime, i: usize, repair_first: bool) {
-    name_line(rt, i);
-    if repair_first {
-        conclude(rt, repair_file(rt, i));
-    }
-    conclude(rt, list_file(rt, i));
-}
-
-// The same for all of the arguments.
-fn show_cases(rt: HostRuntime, usage: &[u8], repair_first: bool) {
+// What `show` says of each argument, after a line with its name.
+fn show_cases<F: Fn(usize)>(rt: HostRuntime, usage: &[u8], show: F)
+    requires { F.IsAlwaysCallable show }
+{
     let n = arguments::count(rt);
     if n < 2 {
-        complain(rt, b"usage", usage);
-        conclude(rt, Outcome::Unreadable);
+        conclude(rt, Err(complain(rt, b"usage", usage).into()));
         return;
     }
     for i in 1..n {
-        show_case(rt, i, repair_first);
+        name_line(rt, i);
+        show(i);
     }
 }
 
 // Lists the volumes in several files.
 pub fn list_all(rt: HostRuntime) {
-    show_cases(rt, b"list_cases FILE..", false);
+    show_cases(rt, b"list_cases FILE..", |i| conclude(rt, list_file(rt, i)));
 }
 
 // Repairs several image files in place, and lists each afterwards.
 pub fn repair_all(rt: HostRuntime) {
-    show_cases(rt, b"repair_cases FILE..", true);
+    show_cases(rt, b"repair_cases FILE..", |i| {
+        conclude(rt, repair_file(rt, i));
+        conclude(rt, list_file(rt, i));
+    });
 }

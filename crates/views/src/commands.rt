@@ -2,14 +2,11 @@
 use crate::listing::list_file;
 use crate::sizing::size_file;
 use crate::space::{alarm_file, report_file};
-use decimals::Number;
 use host::saying::conclude;
-use host::{Outcome, Threshold, arguments};
+use host::{Failure, Word, arguments};
 
-fn list_one(rt: HostRuntime) -> Outcome {
-    if !arguments::are(rt, 2, b"list FILE") {
-        return Outcome::Unreadable;
-    }
+fn list_one(rt: HostRuntime) -> Result<Option<Word>, Failure> {
+    arguments::are(rt, 2, b"list FILE")?;
     list_file(rt, 1)
 }
 
@@ -18,10 +15,8 @@ pub fn list(rt: HostRuntime) {
     conclude(rt, list_one(rt));
 }
 
-fn report_one(rt: HostRuntime) -> Outcome {
-    if !arguments::are(rt, 2, b"report_on IMAGE") {
-        return Outcome::Unreadable;
-    }
+fn report_one(rt: HostRuntime) -> Result<Option<Word>, Failure> {
+    arguments::are(rt, 2, b"report_on IMAGE")?;
     report_file(rt)
 }
 
@@ -30,16 +25,11 @@ pub fn report_on(rt: HostRuntime) {
     conclude(rt, report_one(rt));
 }
 
-fn alarm_one(rt: HostRuntime) -> Outcome {
+fn alarm_one(rt: HostRuntime) -> Result<Option<Word>, Failure> {
     let usage = b"alarm_at IMAGE units COUNT | fraction DECIMAL";
-    if !arguments::are(rt, 4, usage) {
-        return Outcome::Unreadable;
-    }
-    let threshold = arguments::level(rt, usage);
-    match threshold {
-        Threshold::At(level) => alarm_file(rt, level),
-        Threshold::Malformed => Outcome::Unreadable,
-    }
+    arguments::are(rt, 4, usage)?;
+    let level = arguments::level(rt, usage)?;
+    alarm_file(rt, level)
 }
 
 // Says whether the alarm of a volume sounds at a level.
@@ -47,15 +37,10 @@ pub fn alarm_at(rt: HostRuntime) {
     conclude(rt, alarm_one(rt));
 }
 
-fn size_one(rt: HostRuntime) -> Outcome {
-    if !arguments::are(rt, 3, b"size_of IMAGE CHUNK") {
-        return Outcome::Unreadable;
-    }
-    let n = arguments::number(rt, 2);
-    match n {
-        Number::Value(chunk) => size_file(rt, chunk),
-        Number::Malformed => Outcome::Unreadable,
-    }
+fn size_one(rt: HostRuntime) -> Result<Option<Word>, Failure> {
+    arguments::are(rt, 3, b"size_of IMAGE CHUNK")?;
+    let chunk = arguments::number(rt, 2)?;
+    size_file(rt, chunk)
 }
 
 // Prints the stored size of a chunk.

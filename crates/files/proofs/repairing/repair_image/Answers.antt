@@ -5,10 +5,10 @@ use Rattle.files.proofs.repairing.repair_image.Goals as goal
 
 pub slice_bounds-list-end : goal.slice_bounds-list-end
 slice_bounds-list-end c =
-    let a = answered _ _ _ (sym c.in-Unlinked.ensures.value) in
+    let a = answered _ _ _ (sym c.in_ok-n.ensures.value) in
     omega (arith, a.enough)
 
 pub slice_bounds-keep_repaired-end : goal.slice_bounds-keep_repaired-end
 slice_bounds-keep_repaired-end c =
-    let a = answered _ _ _ (sym c.in-Unlinked.ensures.value) in
+    let a = answered _ _ _ (sym c.in_ok-n.ensures.value) in
     sym (length-take-le _ _ (omega (arith, a.enough)))

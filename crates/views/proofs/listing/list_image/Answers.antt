@@ -2,5 +2,5 @@
 use Rattle.image.proofs.Loads.{into-known}
 use Rattle.views.proofs.listing.list_image.Goals as goal
 
-pub chunk_lines-requires : goal.chunk_lines-requires
-chunk_lines-requires c = (into-known c.args.image.now _ _ _ c.load_into-o.ensures _ c.in-Sound.is).shaped
+pub invariant_of-image : goal.invariant_of-image
+invariant_of-image c = record { shaped = (into-known c.args.image.now _ _ _ c.load_into.ensures _ c.in_ok-shape.was).shaped }
