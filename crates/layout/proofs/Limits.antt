@@ -1,9 +1,8 @@
 -- What the limits of a shape say of its numbers, and the sizes that follow.
 use Rattle.std.specs.Prelude.{Ok, Err, Some, None}
-use Rattle.std.proofs.Common.{◌≡◌, ℕ, ◌+◌, ◌-◌, ◌*◌, ◌%◌, ◌^◌, ◌<◌, ◌≤◌, Bool, true, false, cond, not, ◌&&◌, ◌||◌, ◌==◌, nat_eq, slice_index, [], ◌∷◌, take, drop, eqb, ltb, leb, ◌⊎◌, List, length, sym, refl, ap, ◌∙◌, subst, inl, inr, ⊎_elim, mul-le-mul_right, mul-le-mul, arith, rules, ltb-false, ltb-true, le-ltb, lt-ltb, eq-eqb, ne_eqb, eqb-true, le-leb, leb-true}
+use Rattle.std.proofs.Common.{◌≡◌, ℕ, ◌+◌, ◌-◌, ◌*◌, ◌%◌, ◌^◌, ◌<◌, ◌≤◌, Bool, true, false, cond, not, ◌&&◌, ◌||◌, ◌==◌, nat_eq, slice_index, [], ◌∷◌, eqb, ltb, leb, ◌⊎◌, List, length, sym, refl, ap, ◌∙◌, subst, inl, inr, ⊎_elim, mul-le-mul_right, mul-le-mul, arith, rules, ltb-false, ltb-true, le-ltb, lt-ltb, eq-eqb, ne_eqb, eqb-true, le-leb, leb-true}
 use borrow.Author.Tests.{lt-leb, eqb-false}
 use lib.Pointwise.{pointwise}
-use Rattle.std.proofs.lemmas.List.{drop_more}
 use Rattle.words.specs.Words.{u16_at}
 use Rattle.layout.specs.declared.Shape.{Shape}
 use Rattle.layout.specs.Layout.{X, tag, first_edition, last_edition, min_chunk_units, max_chunk_units, min_chunks, max_chunks, min_spare_maps, max_spare_maps, max_maps, max_units, max_map_words, max_maps_words, max_image_bytes, max_reserved, head, map_words, is_unit, trailer_bytes, within_limits, tagged_at, known_as, edition_of, trailer_at, agreeing, spare_zero, known, fitting, shape_of, image_bytes}
@@ -105,23 +104,13 @@ known_as_lem s = go (known_as first_edition s) refl
     go true e = sym e
     go false e = refl
 
--- what the code finds: the edition of a known trailer, or 0
--- four bytes as a part, and one by one
-four-bytes : (s : List ℕ) (t : ℕ) → t + 4 ≤ length s
-    → take (t + 4 - t) (drop t s) ≡ slice_index s t ∷ slice_index s (t + 1) ∷ slice_index s (t + 2) ∷ slice_index s (t + 3) ∷ []
-four-bytes s t h =
-    let n : t + 4 - t ≡ 4 = omega arith in
-    let three : (t + 1) + 1 ≡ t + 2 = omega arith in
-    let four : (t + 2) + 1 ≡ t + 3 = omega arith in
-    rw (n, drop_more s t 0 (omega arith), drop_more s (t + 1) 0 (omega arith), three, drop_more s (t + 2) 0 (omega arith), four, drop_more s (t + 3) 0 (omega arith)) refl
-
--- the tag and a version, where the tag is compared as a part
-pub tagged-part : (s : List ℕ) (t version : ℕ) (b : Bool) → t + 4 ≤ length s → b ≡ pointwise nat_eq (take (t + 4 - t) (drop t s)) tag
+-- the tag and a version, where the tag's four bytes are compared as one
+pub tagged-bytes : (s : List ℕ) (t version : ℕ) (b : Bool)
+    → b ≡ pointwise nat_eq (slice_index s t ∷ slice_index s (t + 1) ∷ slice_index s (t + 2) ∷ slice_index s (t + 3) ∷ []) tag
     → (b && u16_at s (t + 4) == version) ≡ tagged_at s t version
 unfolding tagged_at
-tagged-part s t version b h e =
+tagged-bytes s t version b e =
     ap (λ (x : Bool). x && u16_at s (t + 4) == version) e
-    ∙ ap (λ (l : List ℕ). pointwise nat_eq l tag && u16_at s (t + 4) == version) (four-bytes s t h)
     ∙ regroup (slice_index s t == slice_index tag 0) (slice_index s (t + 1) == slice_index tag 1) (slice_index s (t + 2) == slice_index tag 2)
     (slice_index s (t + 3) == slice_index tag 3) (u16_at s (t + 4) == version)
   where
@@ -132,6 +121,7 @@ tagged-part s t version b h e =
     regroup true true true false u = refl
     regroup true true true true u = refl
 
+-- what the code finds: the edition of a known trailer, or none
 pub edition-none : (s : List ℕ) → None ≡ cond (known s) (Some (edition_of s)) None → known s ≡ false
 edition-none s h = is_false (known s) (λ k. let e = h ∙ cond-true (known s) (Some (edition_of s)) None k in let z : ◌≡◌ {A = ℕ} 0 1 = cc in omega arith)
 

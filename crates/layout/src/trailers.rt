@@ -78,8 +78,8 @@ fn is_tagged(s: &[u8], t: usize, version: u32) -> bool
     requires { t + 6 ≤ length s.now }
     ensures { result ≡ tagged_at s.now t version }
 {
-    let tag: &[u8] = &TAG;
-    &s[t..t + 4] == tag && words::get_u16(s, t + VERSION_AT) as u32 == version
+    [s[t], s[t + 1], s[t + 2], s[t + 3]] == TAG
+        && words::get_u16(s, t + VERSION_AT) as u32 == version
 }
 
 // Whether the last bytes have an edition's tag and version.
