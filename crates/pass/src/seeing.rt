@@ -139,8 +139,11 @@ pub fn see_all(plan: &[u8], g: Shape, due: &Due, start: Seen) -> Option<Seen>
     ensures { Passes g due.now.chunk (unit_at due.now.dealt.now)
         (after_head due.now.heads due.now.size (unit_at due.now.dealt.now)) start plan.now result }
 {
+    if plan.len() % STEP_BYTES != 0 {
+        return None;
+    }
     let n = plan.len() / STEP_BYTES;
-    if plan.len() % STEP_BYTES != 0 || n > MAX_STEPS {
+    if n > MAX_STEPS {
         return None;
     }
     let mut seen = start;

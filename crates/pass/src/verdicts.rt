@@ -83,8 +83,7 @@ fn keeps_rule5(mapped: bool, request: Request, o: Order) -> bool
 {
     match request {
         Request::Write { .. } => o.good && o.linked && o.fenced,
-        Request::Discard { .. } if mapped => o.fenced,
-        Request::Discard { .. } => !o.any,
+        Request::Discard { .. } => { if mapped { o.fenced } else { !o.any } }
     }
 }
 
@@ -94,14 +93,16 @@ pub fn lowest_broken(maps: &[u64], mapped: bool, request: Request, st: Seen) -> 
     ensures { result ≡ broken (broken_by (in_set maps.now) mapped request st) }
 {
     if st.pieces != 0 {
-        Err(Refusal::BadPlan(2))
-    } else if !keeps_rule3(maps, st) {
-        Err(Refusal::BadPlan(3))
-    } else if !keeps_rule4(request, st) {
-        Err(Refusal::BadPlan(4))
-    } else if !keeps_rule5(mapped, request, st.order) {
-        Err(Refusal::BadPlan(5))
-    } else {
-        Ok(())
+        return Err(Refusal::BadPlan(2));
     }
+    if !keeps_rule3(maps, st) {
+        return Err(Refusal::BadPlan(3));
+    }
+    if !keeps_rule4(request, st) {
+        return Err(Refusal::BadPlan(4));
+    }
+    if !keeps_rule5(mapped, request, st.order) {
+        return Err(Refusal::BadPlan(5));
+    }
+    Ok(())
 }

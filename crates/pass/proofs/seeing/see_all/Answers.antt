@@ -8,15 +8,12 @@ use Rattle.rules.specs.Rules.{whole_in_range}
 use native.Mathlib.Omega.{arith}
 use mathlib.Core.Path.{sym, ap, ◌∙◌}
 use Rattle.pass.proofs.seeing.see_all.Goals as goal
-use Rattle.pass.proofs.seeing.see_all.Goals.{then-plan-ne0-via-then-plan-ne0, then-plan-ne0-via-else-plan-ne0+then-n-gt-MAX_STEPS}
 
 pub returns-then-plan-ne0 : goal.returns-then-plan-ne0
-returns-then-plan-ne0 c =
-    elim c.then-plan-ne0.branch [
-      | then-plan-ne0-via-then-plan-ne0 w ↦ record { decides = ragged _ _ w.if-plan-ne0.true; holds = λ st e. cc }
-      | then-plan-ne0-via-else-plan-ne0+then-n-gt-MAX_STEPS w ↦
-          record { decides = too_many _ _ w.if-plan-ne0.false w.if-n-gt-MAX_STEPS.true; holds = λ st e. cc }
-    ]
+returns-then-plan-ne0 c = record { decides = ragged _ _ c.if-plan-ne0.true; holds = λ st e. cc }
+
+pub returns-then-n-gt-MAX_STEPS : goal.returns-then-n-gt-MAX_STEPS
+returns-then-n-gt-MAX_STEPS c = record { decides = too_many _ _ c.if-plan-ne0.false c.if-n-gt-MAX_STEPS.true; holds = λ st e. cc }
 
 pub loop-at-init : goal.loop-at-init
 loop-at-init c = record { ranged = rule1-start _ _ c.if-plan-ne0.false c.if-n-gt-MAX_STEPS.false; folded = fold_start (see _ _ _) _ _ }
