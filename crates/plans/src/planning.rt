@@ -96,7 +96,8 @@ fn check_image(image: &[u8], request: Request, plan: &[u8]) -> Result<Option<Wor
     Ok(Some(Word::Accepted))
 }
 
-// Checks a plan on the image that argument 1 names.
+// Checks a plan on the image that argument 1 names. In a frame of its own, as `carry_plan` is.
+#[inline(never)]
 fn check_plan(rt: HostRuntime, request: Request, plan: &[u8]) -> Result<Option<Word>, Failure> {
     let mut image = [0u8; MAX_IMAGE_BYTES];
     let length = read_file(rt, 1, &mut image)?;
