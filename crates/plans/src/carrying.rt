@@ -38,7 +38,7 @@ fn before_link(plan: &[u8], n: u64) -> u64 {
 // LINK is written, so that a power failure never leaves a link to a map that is not there. Each of
 // the two is made from the image as it was found: once LINK has landed, the plan is no plan for the
 // image any more. In a frame of its own: within main its images would stand below the rooms in which
-// the arguments were read, and the program would take 220 KiB of stack in place of 136.
+// the arguments were read, and the program would take 220 KiB of stack in place of about 140.
 #[inline(never)]
 fn carry_plan(
     rt: HostRuntime,
